@@ -1,6 +1,6 @@
 -- What was written so far, before what is still to be written.
 use Rattle.std.proofs.Common.{◌≡◌, ℕ, zero, suc, ◌+◌, ◌-◌, ◌*◌, ◌%◌, ◌/◌, ◌^◌, ◌<◌, ◌≤◌, List, [], ◌∷◌, ◌++◌, length, take, drop, get_or, refl, ap, sym, ◌∙◌, add-one, append_assoc, append-nil, arith, drop-cons, length-append, lit<, pow-suc, reverse}
-use Rattle.std.proofs.lemmas.List.{drop_all, take-append-drop, drop-set-lt, length-take, take_at, drop_at, take_more, reverse-append}
+use Rattle.std.proofs.lemmas.List.{drop_all, take-append-drop, drop-set-lt, length-take, take_at, drop_at, take_more, drop_more, reverse-append, take-append-le}
 use Rattle.std.proofs.Math.Seq.{take-suc-set}
 use Rattle.std.proofs.Math.ListN.{set}
 use Rattle.std.proofs.Math.Nat.{pow-le-pow_right}
@@ -26,15 +26,12 @@ pub written_all : (out : List ℕ) (w i n : ℕ) → w ≤ i → out ++ little_b
 unfolding little_bytes
 written_all out w i n h = let e : w - i ≡ 0 = omega arith in rw (e, append-nil) refl
 
--- ---- one element of a list after the other
-
-pub drop_step : {X : Type 0} (xs : List X) (i : ℕ) (d : X) → i < length xs → drop i xs ≡ get_or xs i d ∷ drop (i + 1) xs
-drop_step xs i d h = rw (add-one, drop-cons xs i d) refl
+-- ---- one field after the other
 
 pub fields_more : (fs : List Field) (i : ℕ) (d : Field) (out new all : List ℕ) → i < length fs → new ≡ out ++ little_bytes (get_or fs i d).width (get_or fs i d).value
     → out ++ field_bytes (drop i fs) ≡ all → new ++ field_bytes (drop (i + 1) fs) ≡ all
 unfolding field_bytes
-fields_more fs i d out new all h n a = rw (n, append_assoc) (ap (λ rest. out ++ field_bytes rest) (sym (drop_step fs i d h)) ∙ a)
+fields_more fs i d out new all h n a = rw (n, append_assoc) (ap (λ rest. out ++ field_bytes rest) (sym (drop_more fs i d h)) ∙ a)
 
 pub fields_all : (fs : List Field) (i : ℕ) (out : List ℕ) → length fs ≤ i → out ++ field_bytes (drop i fs) ≡ out
 unfolding field_bytes
@@ -104,3 +101,10 @@ big_none = refl
 pub big_more : (bs : List ℕ) (i : ℕ) → i < length bs → little_number (reverse (take (i + 1) bs)) ≡ get_or bs i 0 + 256 * little_number (reverse (take i bs))
 unfolding little_number
 big_more bs i h = rw (take_more bs i 0 h, reverse-append) refl
+
+-- ---- what was there stays in front
+
+pub front_more : (first now new more : List ℕ) → take (length first) now ≡ first → new ≡ now ++ more → take (length first) new ≡ first
+front_more first now new more e n =
+    let within : length first ≤ length now = omega (arith, ap length e, length-take (length first) now) in
+    rw n (take-append-le (length first) now more within ∙ e)

@@ -1,6 +1,6 @@
-//! Numbers by their places in a slice.
+//! Numbers by their places in a slice, of at most eight bytes.
 
-ghost use Rattle.std.specs.Prelude.{◌≡◌, ◌≤◌, ◌<◌, ◌^◌, ◌+◌, length, take, drop, reverse};
+ghost use Rattle.std.specs.Prelude.{nat_le, ◌≡◌, ◌≤◌, ◌<◌, ◌^◌, ◌+◌, length, take, drop, reverse};
 ghost use Rattle.byte_core.specs.Number.{little_number, number_at, big_number_at, where_inside};
 
 /// The little-endian number of the `width` bytes at `at`, None where they leave `bytes`.
@@ -9,7 +9,7 @@ pub fn le_at(bytes: &[u8], at: usize, width: usize) -> Option<u64>
     requires { width ≤ 8 }
     ensures { result ≡ where_inside bytes.now at width (number_at bytes.now at width) }
 {
-    if width > bytes.len() || at > bytes.len() - width {
+    if !is_inside(bytes, at, width) {
         return None;
     }
     Some(little_number_of(&bytes[at..at + width]))
@@ -21,7 +21,7 @@ pub fn be_at(bytes: &[u8], at: usize, width: usize) -> Option<u64>
     requires { width ≤ 8 }
     ensures { result ≡ where_inside bytes.now at width (big_number_at bytes.now at width) }
 {
-    if width > bytes.len() || at > bytes.len() - width {
+    if !is_inside(bytes, at, width) {
         return None;
     }
     Some(big_number_of(&bytes[at..at + width]))
@@ -40,6 +40,12 @@ pub fn put_le(out: &mut [u8], at: usize, width: usize, value: u64)
         out[at + i] = (rest % 256) as u8;
         rest /= 256;
     }
+}
+
+fn is_inside(bytes: &[u8], at: usize, width: usize) -> bool
+    ensures { result ≡ nat_le (at + width) (length bytes.now) }
+{
+    width <= bytes.len() && at <= bytes.len() - width
 }
 
 fn little_number_of(bytes: &[u8]) -> u64
@@ -63,3 +69,6 @@ fn big_number_of(bytes: &[u8]) -> u64
     }
     number
 }
+
+#[cfg(test)]
+mod tests;
