@@ -1,0 +1,76 @@
+-- Where contents that are laid out by alignments stand.
+use Rattle.std.proofs.Common.{◌≡◌, ℕ, zero, suc, ◌+◌, ◌-◌, ◌*◌, ◌<◌, ◌≤◌, List, [], ◌∷◌, ◌++◌, length, take, refl, ap, sym, ◌∙◌, append_assoc, arith, length-append, zero-add, Option, Some, None, slice_get, replicate}
+use Rattle.std.specs.Prelude.{fold, map}
+use Rattle.std.specs.Int.{next_multiple_of}
+use Rattle.std.proofs.lemmas.List.{length-replicate}
+use Rattle.byte_core.specs.LaidOut.{Aligned, end_behind, end_of_aligned, laid_out}
+use Rattle.byte_core.proofs.Standing.{StandsAt, stands_left, stands_right}
+
+-- the zeros between two places
+abbrev pub zeros : ℕ → List ℕ
+zeros n = replicate n 0
+
+pub length-zeros : (n : ℕ) → length (zeros n) ≡ n
+length-zeros n = let z : ℕ = 0 in length-replicate n z
+
+pub end_behind-le : (at : ℕ) (c : Aligned) → at ≤ end_behind at c
+end_behind-le at c = omega arith
+
+pub end_of_aligned-le : (at : ℕ) (cs : List Aligned) → at ≤ end_of_aligned at cs
+unfolding end_of_aligned
+end_of_aligned-le at [] = omega arith
+end_of_aligned-le at (c ∷ cs) = omega (arith, end_of_aligned-le (end_behind at c) cs)
+
+pub end_of_aligned-take : (at : ℕ) (cs : List Aligned) (k : ℕ) → end_of_aligned at (take k cs) ≤ end_of_aligned at cs
+unfolding end_of_aligned
+end_of_aligned-take at cs zero = end_of_aligned-le at cs
+end_of_aligned-take at [] (suc k) = omega arith
+end_of_aligned-take at (c ∷ cs) (suc k) = end_of_aligned-take (end_behind at c) cs k
+
+pub length-laid_out : (at : ℕ) (cs : List Aligned) → at + length (laid_out at cs) ≡ end_of_aligned at cs
+unfolding laid_out end_of_aligned
+length-laid_out at [] = omega arith
+length-laid_out at (c ∷ cs) =
+    omega (
+      arith,
+      length-append (zeros (next_multiple_of at c.align - at)) (c.bytes ++ laid_out (end_behind at c) cs),
+      length-append c.bytes (laid_out (end_behind at c) cs),
+      length-zeros (next_multiple_of at c.align - at),
+      length-laid_out (end_behind at c) cs,
+    )
+
+pub laid_out-append : (at : ℕ) (cs ds : List Aligned) → laid_out at (cs ++ ds) ≡ laid_out at cs ++ laid_out (end_of_aligned at cs) ds
+unfolding laid_out end_of_aligned
+laid_out-append at [] ds = refl
+laid_out-append at (c ∷ cs) ds = rw (laid_out-append (end_behind at c) cs ds, append_assoc, append_assoc) refl
+
+pub end_of_aligned-append : (at : ℕ) (cs ds : List Aligned) → end_of_aligned at (cs ++ ds) ≡ end_of_aligned (end_of_aligned at cs) ds
+unfolding end_of_aligned
+end_of_aligned-append at [] ds = refl
+end_of_aligned-append at (c ∷ cs) ds = end_of_aligned-append (end_behind at c) cs ds
+
+-- contents and the zeros before them
+pub record StandAligned (b : List ℕ) (at : ℕ) (c : Aligned) : Type 0 where
+  pub gap : StandsAt b (zeros (next_multiple_of at c.align - at)) at
+  pub here : StandsAt b c.bytes (next_multiple_of at c.align)
+
+-- contents k stand behind those before them
+pub contents_stand : (b : List ℕ) (at : ℕ) (cs : List Aligned) (k : ℕ) (c : Aligned) → StandsAt b (laid_out at cs) at → slice_get cs k ≡ Some c → StandAligned b (end_of_aligned at (take k cs)) c
+unfolding laid_out end_of_aligned
+contents_stand b at [] zero c s e = absurd (cc)
+contents_stand b at [] (suc k) c s e = absurd (cc)
+contents_stand b at (x ∷ cs) zero c s e =
+    let same : x ≡ c = cc in
+    let gap = zeros (next_multiple_of at x.align - at) in
+    let rest = laid_out (end_behind at x) cs in
+    let n : at + length gap ≡ next_multiple_of at x.align = omega (arith, length-zeros (next_multiple_of at x.align - at)) in
+    rw (← same) (record {
+      gap = stands_left b gap (x.bytes ++ rest) at s;
+      here = stands_left b x.bytes rest (next_multiple_of at x.align) (stands_right b gap (x.bytes ++ rest) at (next_multiple_of at x.align) s n);
+    })
+contents_stand b at (x ∷ cs) (suc k) c s e =
+    let gap = zeros (next_multiple_of at x.align - at) in
+    let rest = laid_out (end_behind at x) cs in
+    let n : at + length gap ≡ next_multiple_of at x.align = omega (arith, length-zeros (next_multiple_of at x.align - at)) in
+    let behind = stands_right b gap (x.bytes ++ rest) at (next_multiple_of at x.align) s n in
+    contents_stand b (end_behind at x) cs k c (stands_right b x.bytes rest (next_multiple_of at x.align) (end_behind at x) behind refl) e

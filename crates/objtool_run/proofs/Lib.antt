@@ -1,0 +1,3 @@
+pub mod Taking
+pub mod OneWord
+pub mod Keys

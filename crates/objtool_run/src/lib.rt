@@ -1,0 +1,18 @@
+//! All that the program does, over any host: the words of the command line, the input, the form of
+//! its JSON, the library's call, the output and the fault text.
+//!
+//! It stands on every library of the repository. The program calls [`run`] and nothing else.
+#![tactic(auto)]
+
+mod input;
+mod output;
+mod script;
+mod status;
+mod words;
+
+pub use input::{INPUT_LIMIT, InputError, read_input};
+pub use output::{write_fault_text, write_output};
+pub use script::fields::{has_keys_within, hex_at, items_at, number_at, text_at, u32_at};
+pub use script::form::FormError;
+pub use status::Status;
+pub use words::is_build;

@@ -1,0 +1,4 @@
+//! The list of parts, read from a JSON value.
+
+pub mod fields;
+pub mod form;
