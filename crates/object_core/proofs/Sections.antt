@@ -1,0 +1,142 @@
+-- Sections that are changed, and what stays true of them.
+use Rattle.std.proofs.Common.{◌≡◌, ℕ, zero, suc, ◌+◌, ◌-◌, ◌<◌, ◌≤◌, ◌++◌, ◌∷◌, List, [], Bool, true, false, cond, inl, inr, max, length, replicate, get_or, set, Option, Some, None, refl, ap, sym, ◌∙◌, subst, arith, length-append, length-set, eq-eqb}
+use Rattle.std.proofs.lemmas.List.{length-replicate, set-get_or}
+use Rattle.std.proofs.lemmas.Bool.{cases_lt}
+use lib.Count.{ones}
+use Rattle.std.specs.Prelude.{slice_get, option_map, unwrap_or, sum_by}
+use Rattle.std.specs.List.{All, position_from}
+use Rattle.std.specs.Int.{next_multiple_of, is_power_of_two}
+use Rattle.std.proofs.lemmas.List.Elements.{All-set, All-push, All-nil, All-get_or}
+use Rattle.std.proofs.lemmas.List.Sums.{sum_by-set, sum_by_push, get_or-le-sum_by}
+use Rattle.object_core.specs.declared.kinds.StandardSection.{StandardSection}
+use Rattle.object_core.specs.declared.symbol.Symbol.{Symbol}
+use Rattle.object_core.specs.Object.{SectionData, ObjectData}
+use Rattle.object_core.specs.Standard.{is_zero_fill, is_same_shared, standard_place, empty_standard}
+use Rattle.object_core.specs.Appending.{changed_at, standard_at, with_contents, offset_in, next_offset, defined_symbol, with_symbol_data, IsSection, AreSections}
+
+-- a place at which a list has a value lies in it
+pub mapped_within : {A B : Type 0} (f : A → B) (xs : List A) (k : ℕ) (y : B) → option_map f (slice_get xs k) ≡ Some y → k < length xs
+mapped_within f [] k y h = absurd (cc)
+mapped_within f (x ∷ xs) zero y h = omega arith
+mapped_within f (x ∷ xs) (suc k) y h = let below : k < length xs = mapped_within f xs k y h in omega arith
+
+pub mapped_is : {A B : Type 0} (f : A → B) (xs : List A) (k : ℕ) (x : A) (y : B) → x ≡ get_or xs k x → option_map f (slice_get xs k) ≡ Some y → f x ≡ y
+mapped_is f [] k x y e h = absurd (cc)
+mapped_is f (z ∷ xs) zero x y e h = ap f e ∙ (cc)
+mapped_is f (z ∷ xs) (suc k) x y e h = mapped_is f xs k x y e h
+
+-- an element that is written over by its change
+pub changed_set : {A : Type 0} (change : A → A) (xs : List A) (k : ℕ) (x : A) → x ≡ get_or xs k x → set xs k (change x) ≡ changed_at k change xs
+changed_set change [] k x e = refl
+changed_set change (z ∷ xs) zero x e = ap (λ w. change w ∷ xs) e
+changed_set change (z ∷ xs) (suc k) x e = ap (λ ws. z ∷ ws) (changed_set change xs k x e)
+
+-- a value of the element at a place
+pub offset_is : {A : Type 0} (f : A → ℕ) (xs : List A) (k : ℕ) (x : A) → k < length xs → x ≡ get_or xs k x → unwrap_or (option_map f (slice_get xs k)) 0 ≡ f x
+offset_is f [] k x h e = absurd (omega arith)
+offset_is f (z ∷ xs) zero x h e = ap f (sym e)
+offset_is f (z ∷ xs) (suc k) x h e = let below : k < length xs = omega arith in offset_is f xs k x below e
+
+-- -- what stays true
+
+pub contents_are : (sections : List SectionData) (sum k : ℕ) (s : SectionData) → AreSections sections sum → k < length sections → s ≡ get_or sections k s → is_zero_fill s.kind ≡ false → length s.contents ≡ s.size
+contents_are sections sum k s h below e bytes =
+    let one : IsSection s = subst IsSection (sym e) (All-get_or IsSection sections k s below h.each) in
+    one.contents ∙ rw bytes refl
+
+pub size_bound : (sections : List SectionData) (sum bound k : ℕ) (s : SectionData) → AreSections sections sum → sum < bound → k < length sections → s ≡ get_or sections k s → s.size < bound
+size_bound sections sum bound k s h small below e =
+    let one = get_or-le-sum_by (λ (x : SectionData). x.size) sections k s below in
+    omega (arith, h.sizes, ap (λ (x : SectionData). x.size) e)
+
+pub no_sections : AreSections [] 0
+no_sections = record { each = All-nil IsSection; sizes = omega arith; aligns = omega arith }
+
+-- -- powers of two
+
+pub power_positive : (n : ℕ) → is_power_of_two n ≡ true → 0 < n
+unfolding ones
+power_positive zero h = absurd (cc)
+power_positive (suc n) h = omega arith
+
+pub one_power : is_power_of_two 1 ≡ true
+unfolding ones
+one_power = refl
+
+pub greater_power : (a b : ℕ) → is_power_of_two a ≡ true → is_power_of_two b ≡ true → is_power_of_two (max a b) ≡ true
+greater_power a b p q =
+    elim (cases_lt a b) [ inl h ↦ (let e : max a b ≡ b = omega arith in rw e q) | inr h ↦ (let e : max a b ≡ a = omega arith in rw e p) ]
+
+-- -- one more section
+
+no_bytes : (zero_fill : Bool) (n : ℕ) → n ≡ 0 → n ≡ cond zero_fill 0 n
+no_bytes true n h = h
+no_bytes false n h = refl
+
+pub one_more : (sections longer : List SectionData) (sum : ℕ) (standard : StandardSection) → AreSections sections sum → longer ≡ sections ++ empty_standard standard ∷ [] → AreSections longer sum
+one_more sections longer sum standard h e =
+    let new : SectionData = empty_standard standard in
+    let one : IsSection new = record { contents = no_bytes (is_zero_fill new.kind) new.size refl; align = omega arith; power = one_power } in
+    let all : AreSections (sections ++ new ∷ []) sum = record {
+      each = All-push IsSection sections new h.each one;
+      sizes = omega (arith, sum_by_push (λ (s : SectionData). s.size) sections new, h.sizes);
+      aligns = omega (arith, sum_by_push (λ (s : SectionData). s.align) sections new, h.aligns, length-append sections (new ∷ []));
+    }
+    in
+    rw e all
+
+found_or_on : (b : Bool) (i : ℕ) (rest : Option ℕ) → cond b (Some i) rest ≡ None → (b ≡ false) × (rest ≡ None)
+found_or_on true i rest h = absurd (cc)
+found_or_on false i rest h = (refl, h)
+
+same_standard : (standard : StandardSection) → is_same_shared (Some standard) (Some standard) ≡ true
+same_standard standard = eq-eqb (standard_place standard) (standard_place standard) refl
+
+made_from : (test : SectionData → Bool) (sections : List SectionData) (new : SectionData) (i : ℕ) → test new ≡ true → position_from test i sections ≡ None → position_from test i (sections ++ new ∷ []) ≡ Some (i + length sections)
+made_from test [] new i p h = rw p (ap Some (omega arith))
+made_from test (s ∷ sections) new i p h =
+    let q = found_or_on (test s) i (position_from test (i + 1) sections) h in
+    rw (q.0, made_from test sections new (i + 1) p q.1) (ap Some (omega arith))
+
+-- a standard section that was not used is the last one once it is made
+pub standard_made : (sections : List SectionData) (standard : StandardSection) → standard_at sections standard ≡ None → standard_at (sections ++ empty_standard standard ∷ []) standard ≡ Some (length sections)
+standard_made sections standard h = made_from (λ s. is_same_shared (Some standard) s.shared) sections (empty_standard standard) 0 (same_standard standard) h ∙ ap Some (omega arith)
+
+-- -- more contents
+
+pub more_contents : (sections : List SectionData) (sum k : ℕ) (s : SectionData) (bytes : List ℕ) (align : ℕ) → AreSections sections sum → k < length sections → s ≡ get_or sections k s → is_zero_fill s.kind ≡ false → is_power_of_two align ≡ true
+    → AreSections (set sections k (with_contents bytes align s)) (sum + (length bytes + align))
+more_contents sections sum k s bytes align h below e holds power =
+    let new : SectionData = with_contents bytes align s in
+    let one : IsSection s = subst IsSection (sym e) (All-get_or IsSection sections k s below h.each) in
+    let positive : 0 < align = power_positive align power in
+    let whole : length s.contents ≡ s.size = contents_are sections sum k s h below e holds in
+    let gap : ℕ = offset_in align s - s.size in
+    let nothing : ℕ = 0 in
+    let changed : IsSection new =
+    record {
+      contents = length-append (s.contents ++ replicate gap 0) bytes ∙ (rw holds (omega (arith, length-append s.contents (replicate gap 0), length-replicate gap nothing, whole)));
+      align = omega arith;
+      power = greater_power s.align align one.power power;
+    }
+    in
+    record {
+      each = All-set IsSection sections k new changed h.each;
+      sizes = omega (arith, sum_by-set (λ (x : SectionData). x.size) sections k new s below, ap (λ (x : SectionData). x.size) e, h.sizes);
+      aligns = omega (arith, sum_by-set (λ (x : SectionData). x.align) sections k new s below, ap (λ (x : SectionData). x.align) e, h.aligns, length-set sections k new);
+    }
+
+-- a change that was taken back
+pub unchanged_set : {A : Type 0} (xs : List A) (k : ℕ) (x : A) → x ≡ get_or xs k x → set xs k x ≡ xs
+unchanged_set xs k x e = ap (λ w. set xs k w) e ∙ set-get_or xs k x
+
+-- -- the whole object
+
+-- what a call leaves that put contents into a section and defined a symbol there
+pub added_data : (o now : ObjectData) (i j symbol section : ℕ) (bytes : List ℕ) (asked align offset : ℕ) (s new : SectionData) (t : Symbol) → o ≡ now → i ≡ section → j ≡ symbol → asked ≡ align → new ≡ with_contents bytes align s → i < length o.sections → s ≡ get_or o.sections i s → t ≡ get_or o.symbols j t → offset ≡ offset_in align s
+    → record o { sections = set o.sections i new; symbols = set o.symbols j (defined_symbol section offset (length bytes) t); content_sum = o.content_sum + (length bytes + asked) } ≡ with_symbol_data now symbol section bytes align
+added_data o now i j symbol section bytes asked align offset s new t same is js asks changed below e f g =
+    let sections = changed_set (with_contents bytes align) o.sections i s e in
+    let at : offset ≡ next_offset o i align = g ∙ sym (offset_is (offset_in align) o.sections i s below e) in
+    let symbols = changed_set (defined_symbol section offset (length bytes)) o.symbols j t f in
+    rw (← same, changed, asks, sections, symbols, at, is, js) refl

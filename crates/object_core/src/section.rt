@@ -1,0 +1,138 @@
+//! Sections of an object.
+
+ghost use Rattle.std.specs.Prelude.{◌≡◌, ◌+◌, ◌<◌, ◌^◌, ℕ, List, false, true, length, IfOk, OnErr, OnOk, IsTrue};
+ghost use Rattle.std.specs.Int.{is_power_of_two, next_multiple_of};
+ghost use Rattle.object_core.specs.Standard.{empty_standard, is_zero_fill};
+ghost use Rattle.object_core.specs.Appending.{with_contents, offset_in};
+
+use crate::placing::append_padded;
+use crate::{Relocation, SectionKind, StandardSection};
+use std::alloc::{AllocError, Global};
+use std::marker::Model;
+
+/// A section of an object. A contract sees it with its texts and bytes as lists.
+#[derive(Drop)]
+pub struct Section {
+    segment: Vec<u8>,
+    name: Vec<u8>,
+    kind: SectionKind,
+    macho_flags: u32,
+    retain: bool,
+    align: u64,
+    size: u128,
+    contents: Vec<u8>,
+    relocations: Vec<Relocation>,
+    shared: Option<StandardSection>,
+}
+
+impl Model for Section {
+    ghost use Rattle.object_core.specs.Object.{SectionData};
+
+    ghost Value = { SectionData };
+
+    ghost view = { λ s. record { segment = s.segment.items; name = s.name.items; kind = s.kind; macho_flags = s.macho_flags; retain = s.retain; align = s.align; size = s.size; contents = s.contents.items; relocations = s.relocations.items; shared = s.shared } };
+}
+
+impl Section {
+    /// The Mach-O segment, empty in ELF.
+    pub fn segment(&self) -> &[u8]
+        ensures { result.now ≡ (self.now).segment }
+    {
+        &self.segment
+    }
+
+    pub fn name(&self) -> &[u8]
+        ensures { result.now ≡ (self.now).name }
+    {
+        &self.name
+    }
+
+    pub fn kind(&self) -> SectionKind
+        ensures { result ≡ (self.now).kind }
+    {
+        self.kind
+    }
+
+    /// The flags of a Mach-O section, 0 in ELF.
+    pub fn macho_flags(&self) -> u32
+        ensures { result ≡ (self.now).macho_flags }
+    {
+        self.macho_flags
+    }
+
+    /// The linker keeps the section also where nothing uses it.
+    pub fn retain(&self) -> bool
+        ensures { result ≡ (self.now).retain }
+    {
+        self.retain
+    }
+
+    /// The greatest alignment of its contents in bytes, 1 where it has none.
+    pub fn align(&self) -> u64
+        ensures { result ≡ (self.now).align }
+    {
+        self.align
+    }
+
+    /// Its size in bytes, that of a zero-fill section too.
+    pub fn size(&self) -> u128
+        ensures { result ≡ (self.now).size }
+    {
+        self.size
+    }
+
+    /// Its bytes, none in a zero-fill section.
+    pub fn contents(&self) -> &[u8]
+        ensures { result.now ≡ (self.now).contents }
+    {
+        &self.contents
+    }
+
+    pub fn relocations(&self) -> &[Relocation]
+        ensures { result.now ≡ (self.now).relocations }
+    {
+        &self.relocations
+    }
+
+    /// The standard section that it is, where it isn't one of its own.
+    pub fn shared(&self) -> Option<StandardSection>
+        ensures { result ≡ (self.now).shared }
+    {
+        self.shared
+    }
+
+    /// A standard section in which nothing is yet.
+    pub(crate) fn standard(alloc: Global, standard: StandardSection) -> Result<Section, AllocError>
+        ensures { IfOk result (λ s. s ≡ empty_standard standard) }
+    {
+        let name = standard.name().to_vec(alloc)?;
+        Ok(Section {
+            segment: Vec::new(alloc),
+            name,
+            kind: standard.kind(),
+            macho_flags: 0,
+            retain: false,
+            align: 1,
+            size: 0,
+            contents: Vec::new(alloc),
+            relocations: Vec::new(alloc),
+            shared: Some(standard),
+        })
+    }
+
+    /// Appends contents behind zeros up to their alignment, and answers their offset.
+    pub(crate) fn append(&mut self, contents: &[u8], align: u64) -> Result<u128, AllocError>
+        requires power { is_power_of_two align ≡ true }
+        requires bytes { length (self.old).contents ≡ (self.old).size }
+        requires size { (self.old).size < 2 ^ 127 }
+        ensures offset { IfOk result (λ offset. offset ≡ offset_in align self.old) }
+        ensures ok { OnOk result (self.new ≡ with_contents contents.now align self.old) }
+        ensures err { OnErr result (self.new ≡ self.old) }
+    {
+        let offset = self.size.next_multiple_of(u128::from(align));
+        append_padded(&mut self.contents, (offset - self.size) as usize, contents)?;
+        self.size = offset + contents.len() as u128;
+        self.align = self.align.max(align);
+        Ok(offset)
+    }
+}
