@@ -1,6 +1,5 @@
 -- Where contents that are laid out by alignments stand.
-use Rattle.std.proofs.Common.{◌≡◌, ℕ, zero, suc, ◌+◌, ◌-◌, ◌*◌, ◌<◌, ◌≤◌, List, [], ◌∷◌, ◌++◌, length, take, refl, ap, sym, ◌∙◌, append_assoc, arith, length-append, zero-add, Option, Some, None, slice_get, replicate}
-use Rattle.std.specs.Prelude.{fold, map}
+use Rattle.std.proofs.Common.{◌≡◌, ℕ, zero, suc, ◌+◌, ◌-◌, ◌≤◌, List, [], ◌∷◌, ◌++◌, length, take, refl, append_assoc, arith, length-append, Some, slice_get, replicate}
 use Rattle.std.specs.Int.{next_multiple_of}
 use Rattle.std.proofs.lemmas.List.{length-replicate}
 use Rattle.byte_core.specs.LaidOut.{Aligned, end_behind, end_of_aligned, laid_out}
