@@ -1,3 +1,4 @@
 pub mod Taking
 pub mod OneWord
 pub mod Keys
+pub mod CommandList

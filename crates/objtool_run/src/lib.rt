@@ -12,7 +12,7 @@ mod words;
 
 pub use input::{INPUT_LIMIT, InputError, read_input};
 pub use output::{write_fault_text, write_output};
-pub use script::fields::{has_keys_within, hex_at, items_at, number_at, text_at, u32_at};
+pub use script::command::commands_of;
 pub use script::form::FormError;
 pub use status::Status;
 pub use words::is_build;

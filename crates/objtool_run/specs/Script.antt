@@ -1,0 +1,58 @@
+-- The list of parts that a JSON value stands for.
+use Rattle.std.specs.Prelude.{◌≡◌, ℕ, ◌==◌, ◌&&◌, Bool, true, false, not, List, [], ◌∷◌, length, slice_get, codes, if◌then◌else◌, Option, Some, None}
+use Rattle.std.specs.List.{list_any, list_all, filter_map}
+use Rattle.std.specs.Str.{bytes_eq, IsUtf8}
+use Rattle.serde_json.specs.Data.{Data, Items, no_items, item}
+use Rattle.serde_json.specs.Find.{as_array}
+use Rattle.serde_json.specs.Read.{read}
+use Rattle.ir_core.specs.Moments.{Moment, moments}
+use Rattle.ir_core.specs.Signature.{SignatureData}
+use Rattle.ir_core.specs.Target.{Target}
+use Rattle.ir_core.specs.declared.types.CallConv.TheVariants.{SystemV}
+use Rattle.ir_core.specs.declared.target.Architecture.TheVariants.{X86_64}
+use Rattle.ir_core.specs.declared.target.BinaryFormat.TheVariants.{Elf}
+use Rattle.ir_core.specs.declared.target.System.TheVariants as systems
+use Rattle.ir_core.specs.declared.target.Environment.TheVariants as environments
+use Rattle.cranelift_module.specs.declared.linkage.Linkage.{Linkage}
+use Rattle.cranelift_module.specs.declared.linkage.Linkage.TheVariants.{Import, Local, Preemptible, Hidden, Export}
+use Rattle.cranelift_module.specs.Call.{Call, declare_function, declare_anonymous_function, declare_data, declare_anonymous_data, define_function, define_data}
+use Rattle.objtool_run.specs.Form.{◌>>=◌, text_at, items_at, u32_at, hex_at, with_keys}
+
+-- -- commands
+
+-- the linkages that are built so far
+abbrev pub linkage_of : List ℕ → Option Linkage
+linkage_of text =
+    if bytes_eq text (codes "Import") then Some Import
+    else if bytes_eq text (codes "Local") then Some Local
+    else if bytes_eq text (codes "Export") then Some Export
+    else None
+
+-- the signature of a function that names none: that of the target's default convention
+abbrev pub default_signature : SignatureData
+default_signature = record { params = []; returns = []; call_conv = SystemV }
+
+unfoldable pub declare_of : Data → Option Call
+declare_of d = with_keys (codes "op" ∷ codes "name" ∷ codes "linkage" ∷ []) d do
+  name ← text_at (codes "name") d
+  text ← text_at (codes "linkage") d
+  linkage ← linkage_of text
+  Some (declare_function name linkage default_signature)
+
+unfoldable pub define_of : Data → Option Call
+define_of d = with_keys (codes "op" ∷ codes "id" ∷ codes "bytes" ∷ []) d do
+  id ← u32_at (codes "id") d
+  bytes ← hex_at (codes "bytes") d
+  Some (define_function id 1 bytes [])
+
+-- a command by its `op`
+unfoldable pub command_of : Data → Option Call
+command_of d = do
+  op ← text_at (codes "op") d
+  if bytes_eq op (codes "declare_function") then declare_of d
+      else if bytes_eq op (codes "define_function") then define_of d
+      else None
+
+unfoldable pub commands_of : Items → Option (List Call)
+commands_of no_items = Some []
+commands_of (item d ds) = command_of d >>= λ c. commands_of ds >>= λ cs. Some (c ∷ cs)
