@@ -2,3 +2,5 @@ pub mod Taking
 pub mod OneWord
 pub mod Keys
 pub mod CommandList
+pub mod Distinct
+pub mod Built

@@ -56,3 +56,54 @@ command_of d = do
 unfoldable pub commands_of : Items → Option (List Call)
 commands_of no_items = Some []
 commands_of (item d ds) = command_of d >>= λ c. commands_of ds >>= λ cs. Some (c ∷ cs)
+
+-- -- the parts that are built so far
+
+-- the name and the linkage that a call declares a function with
+abbrev pub declared_name : Call → Option (List ℕ)
+declared_name (declare_function name linkage signature) = Some name
+declared_name (declare_anonymous_function signature) = None
+declared_name (declare_data name linkage writable tls) = None
+declared_name (declare_anonymous_data writable tls) = None
+declared_name (define_function id align contents relocs) = None
+declared_name (define_data id d) = None
+
+abbrev pub declared_linkage : Call → Option Linkage
+declared_linkage (declare_function name linkage signature) = Some linkage
+declared_linkage (declare_anonymous_function signature) = None
+declared_linkage (declare_data name linkage writable tls) = None
+declared_linkage (declare_anonymous_data writable tls) = None
+declared_linkage (define_function id align contents relocs) = None
+declared_linkage (define_data id d) = None
+
+-- no text stands among those before it
+unfoldable pub is_distinct : List (List ℕ) → Bool
+is_distinct texts = list_all (λ m. not (list_any (bytes_eq m.here) m.before)) (moments texts)
+
+abbrev pub has_zero_byte : List ℕ → Bool
+has_zero_byte text = list_any (λ x. x == 0) text
+
+abbrev pub is_import : Option Linkage → Bool
+is_import None = false
+is_import (Some Import) = true
+is_import (Some Local) = false
+is_import (Some Preemptible) = false
+is_import (Some Hidden) = false
+is_import (Some Export) = false
+
+-- the call defines a function that is declared with the linkage Import
+abbrev pub defines_import : List Linkage → Call → Bool
+defines_import linkages (declare_function name linkage signature) = false
+defines_import linkages (declare_anonymous_function signature) = false
+defines_import linkages (declare_data name linkage writable tls) = false
+defines_import linkages (declare_anonymous_data writable tls) = false
+defines_import linkages (define_function id align contents relocs) = is_import (slice_get linkages id)
+defines_import linkages (define_data id d) = false
+
+-- no name is declared twice or has a zero byte, the file's included, and no import is defined
+unfoldable pub is_built : List ℕ → List Call → Bool
+is_built file calls =
+    not (has_zero_byte file)
+    && (not (list_any has_zero_byte (filter_map declared_name calls))
+    && (is_distinct (filter_map declared_name calls)
+    && not (list_any (defines_import (filter_map declared_linkage calls)) calls)))
