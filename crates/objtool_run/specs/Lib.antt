@@ -1,4 +1,4 @@
 pub mod Words
-pub mod Status
+pub mod Fault
 pub mod Form
 pub mod Script

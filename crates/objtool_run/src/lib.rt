@@ -4,15 +4,15 @@
 //! It stands on every library of the repository. The program calls [`run`] and nothing else.
 #![tactic(auto)]
 
+mod fault;
 mod input;
 mod output;
 mod script;
-mod status;
 mod words;
 
+pub use fault::Fault;
 pub use input::{INPUT_LIMIT, InputError, read_input};
 pub use output::{write_fault_text, write_output};
 pub use script::command::commands_of;
 pub use script::form::FormError;
-pub use status::Status;
 pub use words::is_build;
