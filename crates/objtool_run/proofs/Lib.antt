@@ -4,3 +4,4 @@ pub mod Keys
 pub mod CommandList
 pub mod Distinct
 pub mod Built
+pub mod Judging

@@ -2,3 +2,4 @@ pub mod Words
 pub mod Fault
 pub mod Form
 pub mod Script
+pub mod Run

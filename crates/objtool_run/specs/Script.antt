@@ -16,6 +16,8 @@ use Rattle.ir_core.specs.declared.target.Environment.TheVariants as environments
 use Rattle.cranelift_module.specs.declared.linkage.Linkage.{Linkage}
 use Rattle.cranelift_module.specs.declared.linkage.Linkage.TheVariants.{Import, Local, Preemptible, Hidden, Export}
 use Rattle.cranelift_module.specs.Call.{Call, declare_function, declare_anonymous_function, declare_data, declare_anonymous_data, define_function, define_data}
+use Rattle.cranelift_module.specs.LibraryNames.{usual_texts}
+use Rattle.image_build.specs.Built.{BuildPart, commands}
 use Rattle.objtool_run.specs.Form.{◌>>=◌, text_at, items_at, u32_at, hex_at, with_keys}
 
 -- -- commands
@@ -107,3 +109,55 @@ is_built file calls =
     && (not (list_any has_zero_byte (filter_map declared_name calls))
     && (is_distinct (filter_map declared_name calls)
     && not (list_any (defines_import (filter_map declared_linkage calls)) calls)))
+
+-- -- parts
+
+-- the target of x86_64 ELF files, without flags
+abbrev pub elf_target : Target
+elf_target = record { triple = record { architecture = X86_64; binary_format = Elf; system = systems.Unknown; version = None; environment = environments.Unknown }; flags = [] }
+
+-- a part without options, with the default library texts
+abbrev pub part_with : List ℕ → List Call → BuildPart
+part_with name calls =
+    commands (record {
+      settings = record { file_name = name; library_names = usual_texts; function_sections = false; data_sections = false };
+      target = elf_target;
+      calls = calls;
+    })
+
+unfoldable pub part_of : Data → Option BuildPart
+part_of d = with_keys (codes "name" ∷ codes "arch" ∷ codes "format" ∷ codes "commands" ∷ []) d do
+  name ← text_at (codes "name") d
+  arch ← text_at (codes "arch") d
+  format ← text_at (codes "format") d
+  items ← items_at (codes "commands") d
+  calls ← commands_of items
+  if bytes_eq arch (codes "x86_64") && (bytes_eq format (codes "elf") && is_built name calls) then Some (part_with name calls) else None
+
+abbrev pub one_part : Items → Option (List BuildPart)
+one_part no_items = None
+one_part (item d no_items) = part_of d >>= λ part. Some (part ∷ [])
+one_part (item d (item e ds)) = None
+
+-- a list of one part
+abbrev pub parts_of : Data → Option (List BuildPart)
+parts_of d = as_array d >>= λ ds. one_part ds
+
+-- -- the bytes of an input
+
+-- the bytes are a text, and the text is this JSON value within 127 levels
+pub record HasJson (bytes : List ℕ) (d : Data) : Type 0 where
+  pub utf8 : IsUtf8 bytes
+  pub value : read bytes ≡ Some d
+
+-- the input has no JSON reading
+abbrev pub HasNoJson : List ℕ → Type 0
+HasNoJson input = (d : Data) → HasJson input d → ⊥
+
+-- the input has a reading, and the value isn't of the form built so far
+abbrev pub HasOtherForm : List ℕ → Type 0
+HasOtherForm input = (d : Data) × HasJson input d × (parts_of d ≡ None)
+
+-- the input stands for these parts
+abbrev pub StandsFor : List ℕ → List BuildPart → Type 0
+StandsFor input parts = (d : Data) × HasJson input d × (parts_of d ≡ Some parts)

@@ -1,9 +1,10 @@
 //! Why the program ends without its output.
 
 ghost use Rattle.std.specs.Prelude.{◌≡◌};
-ghost use Rattle.objtool_run.specs.Fault.{code_of, text_of};
+ghost use Rattle.objtool_run.specs.Fault.{code_of, text_of, input_fault};
 ghost use Rattle.objtool_run.specs.declared.fault.Fault.TheVariants.{OutOfMemory};
 
+use crate::input::InputError;
 use std::alloc::{AllocError, AllocFailed};
 
 /// Why the program ends without its output. Each fault has an exit status and a fault text.
@@ -76,5 +77,17 @@ impl<T: Drop> From<AllocFailed<T>> for Fault {
 
     fn from(_error: AllocFailed<T>) -> Fault {
         Fault::OutOfMemory
+    }
+}
+
+impl From<InputError> for Fault {
+    ghost from_gives = { λ error fault. fault ≡ input_fault error };
+
+    fn from(error: InputError) -> Fault {
+        match error {
+            InputError::Failed => Fault::ReadFailed,
+            InputError::TooLong => Fault::TooLong,
+            InputError::OutOfMemory => Fault::OutOfMemory,
+        }
     }
 }
