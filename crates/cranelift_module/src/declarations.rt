@@ -6,11 +6,11 @@ ghost use Rattle.cranelift_module.specs.declared.identifiers.FuncOrDataId.TheVar
 ghost use Rattle.std.specs.List.{find, list_any, position_from};
 ghost use Rattle.cranelift_module.specs.declared.linkage.Linkage.TheVariants.{Local};
 ghost use Rattle.cranelift_module.specs.LinkState.{is_function_named, with_first, raised_function};
-ghost use Rattle.cranelift_module.specs.Declarations.{changed_at, function_found};
+ghost use Rattle.cranelift_module.specs.Declarations.{changed_at, function_found, numbered};
 ghost use Rattle.cranelift_module.specs.Refusal.{Tells, changes_signature, function_clash};
 
 use crate::{
-    DataDeclaration, FuncId, FuncOrDataId, FunctionDeclaration, Linkage, ModuleError,
+    DataDeclaration, FuncId, FuncOrDataId, FunctionDeclaration, Functions, Linkage, ModuleError,
     ModuleRelocTarget, ModuleResult,
 };
 use ir_core::Signature;
@@ -28,13 +28,13 @@ pub struct ModuleDeclarations {
 }
 
 impl Model for ModuleDeclarations {
-    ghost use Rattle.cranelift_module.specs.Declarations.{DeclarationLists, FindsNames};
+    ghost use Rattle.cranelift_module.specs.Declarations.{DeclarationLists, IsSound};
 
     ghost Value = { DeclarationLists };
 
     ghost view = { λ d. record { functions = d.functions.items; objects = d.objects.items } };
 
-    ghost invariant = { λ d. FindsNames d.names d.functions.items d.objects.items };
+    ghost invariant = { λ d. IsSound d.names d.functions.items d.objects.items };
 }
 
 impl ModuleDeclarations {
@@ -58,6 +58,13 @@ impl ModuleDeclarations {
         ensures { result ≡ declared_under self.now name.now }
     {
         found(&self.names, name)
+    }
+
+    /// The declared functions with their identifiers, by number.
+    pub fn get_functions(&self) -> Functions<'_>
+        ensures { result ≡ numbered 0 (self.now).functions }
+    {
+        Functions::new(&self.functions)
     }
 
     /// Whether a function is declared under a name.

@@ -8,6 +8,6 @@ pub returns : goal.returns
 returns c =
     c.is_function_id.ensures
     ∙ ap (λ o. is_some (function_found o)) c.found.ensures
-    ∙ ap is_some (c.self.invariant.at_function c.args.name.now)
+    ∙ ap is_some (c.self.invariant.finds.at_function c.args.name.now)
     ∙ sym (any-position (is_function_named c.args.name.now) c.self.inside.functions.items)
     ∙ rw (← c.self.view_is) refl
