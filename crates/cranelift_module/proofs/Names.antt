@@ -1,5 +1,5 @@
 -- Names stay found when a declaration is added or changed.
-use Rattle.std.proofs.Common.{◌≡◌, ℕ, zero, suc, ◌<◌, get_or, arith, List, [], ◌∷◌, ◌++◌, length, Bool, true, false, cond, Option, Some, None, option_map, slice_get, Result, Ok, Err, OnOk, OnErr, refl, ap, sym, ◌∙◌, String, Global, string_bytes, bytes_eq}
+use Rattle.std.proofs.Common.{◌≡◌, ℕ, zero, suc, ◌<◌, ◌≤◌, get_or, length-append, arith, List, [], ◌∷◌, ◌++◌, length, Bool, true, false, cond, Option, Some, None, option_map, slice_get, Result, Ok, Err, OnOk, OnErr, refl, ap, sym, ◌∙◌, String, Global, string_bytes, bytes_eq}
 use Rattle.std.specs.List.{find, position_from}
 use Rattle.std.specs.Map.{lookup}
 use Rattle.std.specs.Option.{option_or}
@@ -15,9 +15,9 @@ use Rattle.cranelift_module.specs.declared.identifiers.FuncOrDataId.{FuncOrDataI
 use Rattle.cranelift_module.specs.declared.identifiers.FuncOrDataId.TheVariants.{Func, Data}
 use Rattle.cranelift_module.specs.Rows.{FunctionRow, DataRow}
 use Rattle.cranelift_module.specs.LinkState.{is_function_named, is_data_named, is_same, raised_function}
-use Rattle.cranelift_module.specs.Declarations.{FindsNames, function_found, data_found, changed_at}
+use Rattle.cranelift_module.specs.Declarations.{FindsNames, IsSound, function_found, data_found, changed_at}
 use Rattle.cranelift_module.specs.Refusal.{Refusal, function_clash, changes_signature, incompatible_declaration, incompatible_signature}
-use Rattle.cranelift_module.proofs.Places.{position-changed, position-append, find-at, find-none, any-at, any-none, position-below}
+use Rattle.cranelift_module.proofs.Places.{position-changed, position-append, find-at, find-none, any-at, any-none, position-below, length-changed}
 use Rattle.ir_core.specs.Signature.{SignatureData, is_same_signature}
 
 -- a raised linkage leaves each name where it is
@@ -68,6 +68,9 @@ FindsNames-named names names' functions objects text row e none updates h =
       absent : (name : List ℕ) → bytes_eq (string_bytes text) name ≡ true → get_by_text names name ≡ None
       absent name b = ap (get_by_text names) (sym ((bytes_eq-Decides (string_bytes text) name).0 b)) ∙ none
 
+pushed_few : (functions : List FunctionRow) (row : FunctionRow) → length functions < 4294967295 → length (functions ++ row ∷ []) ≤ 4294967295
+pushed_few functions row few = simp length-append (omega arith)
+
 -- the same, of a text that has the name's bytes
 pub FindsNames-declared : (names names' : BTreeMap (String Global) FuncOrDataId) (functions functions' : List FunctionRow) (objects : List DataRow) (name : List ℕ) (row : FunctionRow)
     → row.name ≡ Some name → get_by_text names name ≡ None → (text : String Global) × (string_bytes text ≡ name) × tree.Updates string_cmp names names' text (Some (Func (length functions)))
@@ -84,17 +87,26 @@ same_entries names names' functions objects e h =
     }
 
 -- a call that adds a function under a name that was not there, or leaves all as it was
-pub FindsNames-first : {A E : Type 0} (result : Result A E) (names names' : BTreeMap (String Global) FuncOrDataId) (functions functions' : List FunctionRow) (objects : List DataRow) (name : List ℕ) (row : FunctionRow)
+pub IsSound-first : {A E : Type 0} (result : Result A E) (names names' : BTreeMap (String Global) FuncOrDataId) (functions functions' : List FunctionRow) (objects : List DataRow) (name : List ℕ) (row : FunctionRow)
     → row.name ≡ Some name → get_by_text names name ≡ None → OnOk result ((text : String Global) × (string_bytes text ≡ name) × tree.Updates string_cmp names names' text (Some (Func (length functions))))
-    → OnOk result (functions' ≡ functions ++ row ∷ []) → OnErr result (functions' ≡ functions) → OnErr result (tree.IsUnchanged names names') → FindsNames names functions objects → FindsNames names' functions' objects
-FindsNames-first (Ok a) names names' functions functions' objects name row e none found pushed kept names_kept h = FindsNames-declared names names' functions functions' objects name row e none found pushed h
-FindsNames-first (Err x) names names' functions functions' objects name row e none found pushed kept names_kept h = rw kept (same_entries names names' functions objects names_kept h)
+    → OnOk result (functions' ≡ functions ++ row ∷ []) → OnErr result (functions' ≡ functions) → OnErr result (tree.IsUnchanged names names') → length functions < 4294967295 → IsSound names functions objects
+    → IsSound names' functions' objects
+IsSound-first (Ok a) names names' functions functions' objects name row e none found pushed kept names_kept few h =
+    record { finds = FindsNames-declared names names' functions functions' objects name row e none found pushed h.finds; few = rw pushed (pushed_few functions row few) }
+IsSound-first (Err x) names names' functions functions' objects name row e none found pushed kept names_kept few h =
+    record { finds = rw kept (same_entries names names' functions objects names_kept h.finds); few = rw kept h.few }
 
 -- a call that raises the linkage of a function, or leaves all as it was
-pub FindsNames-again : {A E : Type 0} (result : Result A E) (names : BTreeMap (String Global) FuncOrDataId) (functions functions' : List FunctionRow) (objects : List DataRow) (k : ℕ) (linkage : Linkage)
-    → OnOk result (functions' ≡ changed_at k (raised_function linkage) functions) → OnErr result (functions' ≡ functions) → FindsNames names functions objects → FindsNames names functions' objects
-FindsNames-again (Ok a) names functions functions' objects k linkage raised kept h = rw raised (FindsNames-raised names functions objects k linkage h)
-FindsNames-again (Err x) names functions functions' objects k linkage raised kept h = rw kept h
+pub IsSound-again : {A E : Type 0} (result : Result A E) (names : BTreeMap (String Global) FuncOrDataId) (functions functions' : List FunctionRow) (objects : List DataRow) (k : ℕ) (linkage : Linkage)
+    → OnOk result (functions' ≡ changed_at k (raised_function linkage) functions) → OnErr result (functions' ≡ functions) → IsSound names functions objects → IsSound names functions' objects
+IsSound-again (Ok a) names functions functions' objects k linkage raised kept h =
+    record { finds = rw raised (FindsNames-raised names functions objects k linkage h.finds); few = rw (raised, length-changed (raised_function linkage) functions k) h.few }
+IsSound-again (Err x) names functions functions' objects k linkage raised kept h = rw kept h
+
+-- a call that adds a function without a name
+pub IsSound-anonymous : (names : BTreeMap (String Global) FuncOrDataId) (functions : List FunctionRow) (objects : List DataRow) (row : FunctionRow)
+    → row.name ≡ None → length functions < 4294967295 → IsSound names functions objects → IsSound names (functions ++ row ∷ []) objects
+IsSound-anonymous names functions objects row e few h = record { finds = FindsNames-anonymous names functions objects row e h.finds; few = pushed_few functions row few }
 
 -- -- what a name that was looked up says of the lists
 

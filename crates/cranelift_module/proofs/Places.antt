@@ -1,5 +1,5 @@
 -- The place of the first element that passes a test.
-use Rattle.std.proofs.Common.{◌≡◌, ℕ, zero, suc, ◌+◌, ◌<◌, List, [], ◌∷◌, ◌++◌, length, slice_get, Bool, true, false, cond, Option, Some, None, option_map, get_or, refl, ap, sym, ◌∙◌, subst, arith, add-zero, zero-add}
+use Rattle.std.proofs.Common.{◌≡◌, ℕ, zero, suc, ◌+◌, ◌<◌, List, [], ◌∷◌, ◌++◌, length, slice_get, Bool, true, false, cond, Option, Some, None, is_some, option_map, get_or, refl, ap, sym, ◌∙◌, subst, arith, add-zero, zero-add}
 use Rattle.std.proofs.Math.ListN.{set}
 use Rattle.std.specs.List.{list_any, find, position_from}
 use Rattle.std.specs.Option.{option_or}
@@ -182,3 +182,10 @@ slice_get-set {A} xs k j y e h = rw (← e) (written xs j (subst (λ n. n < leng
   written [] j h = absurd (omega arith)
   written (z ∷ zs) zero h = refl
   written (z ∷ zs) (suc j) h = written zs j (omega arith)
+
+-- whether some element passes, and whether it has a place
+pub any-position : {A : Type 0} (t : A → Bool) (xs : List A) → list_any t xs ≡ is_some (position_from t 0 xs)
+any-position t xs = go (place t xs) refl ∙ ap is_some (sym (position-place t xs)) where
+  go : (o : Option ℕ) → place t xs ≡ o → list_any t xs ≡ is_some (place t xs)
+  go None h = any-no_place t xs h ∙ ap is_some (sym h)
+  go (Some k) h = any-place t xs k h ∙ ap is_some (sym h)

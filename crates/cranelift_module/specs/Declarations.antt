@@ -1,5 +1,5 @@
 -- What a contract sees of the declarations, and how a map finds the names among them.
-use Rattle.std.specs.Prelude.{◌≡◌, ℕ, zero, suc, List, [], ◌∷◌, Option, Some, None, option_map, String}
+use Rattle.std.specs.Prelude.{◌≡◌, ℕ, zero, suc, ◌+◌, ◌≤◌, length, List, [], ◌∷◌, Option, Some, None, option_map, String}
 use Rattle.std.specs.Global.{Global}
 use Rattle.std.specs.List.{position_from}
 use Rattle.std.specs.Option.{option_or}
@@ -32,6 +32,16 @@ data_found _ = None
 pub record FindsNames (names : BTreeMap (String Global) FuncOrDataId) (functions : List FunctionRow) (objects : List DataRow) : Type 0 where
   pub at_function : (name : List ℕ) → function_found (get_by_text names name) ≡ position_from (is_function_named name) 0 functions
   pub at_data : (name : List ℕ) → data_found (get_by_text names name) ≡ position_from (is_data_named name) 0 objects
+
+-- what stands of the declarations at every moment: names are found, and an identifier is below 2^32 - 1
+pub record IsSound (names : BTreeMap (String Global) FuncOrDataId) (functions : List FunctionRow) (objects : List DataRow) : Type 0 where
+  pub finds : FindsNames names functions objects
+  pub few : length functions ≤ 4294967295
+
+-- the functions with their numbers, from this number on
+abbrev pub numbered : ℕ → List FunctionRow → List (ℕ × FunctionRow)
+numbered n [] = []
+numbered n (row ∷ rows) = (n, row) ∷ numbered (n + 1) rows
 
 -- the list with the element at this place changed
 abbrev pub changed_at : {A : Type 0} → ℕ → (A → A) → List A → List A

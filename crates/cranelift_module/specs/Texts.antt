@@ -1,5 +1,5 @@
 -- The printed texts of targets and refusals.
-use Rattle.std.specs.Prelude.{ℕ, Bool, true, false, List, ◌++◌, codes, decimal, string_bytes}
+use Rattle.std.specs.Prelude.{ℕ, ◌==◌, Bool, true, false, List, ◌++◌, codes, decimal, string_bytes}
 use Rattle.ir_core.specs.Names.{reloc_name, libcall_name, known_symbol_name}
 use Rattle.ir_core.specs.Signature.{signature_text}
 use Rattle.cranelift_module.specs.declared.identifiers.FuncOrDataId.{FuncOrDataId}
@@ -17,6 +17,16 @@ use Rattle.cranelift_module.specs.declared.error.ModuleError.TheVariants.{Undecl
 abbrev pub user_target : FuncOrDataId → ModuleRelocTarget
 user_target (Func id) = User 0 id
 user_target (Data id) = User 1 id
+
+-- the target is of a namespace and an index
+abbrev pub IsUser : ModuleRelocTarget → Type 0
+IsUser (User namespace index) = Unit {0}
+IsUser _ = ⊥
+
+-- a user's target is a function where its namespace is 0
+abbrev pub is_function_target : ModuleRelocTarget → Bool
+is_function_target (User namespace index) = namespace == 0
+is_function_target _ = false
 
 -- how a user's target prints
 abbrev pub user_text : ℕ → ℕ → List ℕ

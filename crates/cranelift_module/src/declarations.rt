@@ -1,16 +1,16 @@
 //! The declarations of a module: functions and data objects by number, and their names.
 
-ghost use Rattle.std.specs.Prelude.{◌≡◌, ◌<◌, ◌++◌, ◌∷◌, [], ℕ, Some, None, IfOk, IfErr, OnOk, OnErr, length, option_map, slice_get, string_bytes, string_cmp, option_copied};
+ghost use Rattle.std.specs.Prelude.{◌≡◌, ◌<◌, ◌++◌, ◌∷◌, [], ℕ, Some, None, IfOk, IfErr, OnOk, OnErr, length, option_map, slice_get, string_bytes, string_cmp, option_copied, is_some};
 ghost use Rattle.std.specs.BTreeMap.{IsUnchanged, Updates, get_by_text};
 ghost use Rattle.cranelift_module.specs.declared.identifiers.FuncOrDataId.TheVariants.{Func};
-ghost use Rattle.std.specs.List.{find, position_from};
+ghost use Rattle.std.specs.List.{find, list_any, position_from};
 ghost use Rattle.cranelift_module.specs.declared.linkage.Linkage.TheVariants.{Local};
 ghost use Rattle.cranelift_module.specs.LinkState.{is_function_named, with_first, raised_function};
-ghost use Rattle.cranelift_module.specs.Declarations.{changed_at};
+ghost use Rattle.cranelift_module.specs.Declarations.{changed_at, function_found, numbered};
 ghost use Rattle.cranelift_module.specs.Refusal.{Tells, changes_signature, function_clash};
 
 use crate::{
-    DataDeclaration, FuncId, FuncOrDataId, FunctionDeclaration, Linkage, ModuleError,
+    DataDeclaration, FuncId, FuncOrDataId, FunctionDeclaration, Functions, Linkage, ModuleError,
     ModuleRelocTarget, ModuleResult,
 };
 use ir_core::Signature;
@@ -28,17 +28,18 @@ pub struct ModuleDeclarations {
 }
 
 impl Model for ModuleDeclarations {
-    ghost use Rattle.cranelift_module.specs.Declarations.{DeclarationLists, FindsNames};
+    ghost use Rattle.cranelift_module.specs.Declarations.{DeclarationLists, IsSound};
 
     ghost Value = { DeclarationLists };
 
     ghost view = { λ d. record { functions = d.functions.items; objects = d.objects.items } };
 
-    ghost invariant = { λ d. FindsNames d.names d.functions.items d.objects.items };
+    ghost invariant = { λ d. IsSound d.names d.functions.items d.objects.items };
 }
 
 impl ModuleDeclarations {
     ghost use Rattle.cranelift_module.specs.Declarations.{declared_under};
+    ghost use Rattle.cranelift_module.specs.Texts.{IsUser, is_function_target};
 
     /// No declarations.
     pub fn new(alloc: Global) -> Self
@@ -57,6 +58,34 @@ impl ModuleDeclarations {
         ensures { result ≡ declared_under self.now name.now }
     {
         found(&self.names, name)
+    }
+
+    /// The declared functions with their identifiers, by number.
+    pub fn get_functions(&self) -> Functions<'_>
+        ensures { result ≡ numbered 0 (self.now).functions }
+    {
+        Functions::new(&self.functions)
+    }
+
+    /// Whether a function is declared under a name.
+    pub fn has_function(&self, name: &str) -> bool
+        ensures { result ≡ list_any (is_function_named name.now) (self.now).functions }
+    {
+        is_function_id(found(&self.names, name))
+    }
+
+    /// Whether a target of a user is a function: one of namespace 0.
+    pub fn is_function(target: &ModuleRelocTarget) -> bool
+        requires { IsUser target.now }
+        ensures { result ≡ is_function_target target.now }
+    {
+        matches!(
+            target,
+            ModuleRelocTarget::User {
+                namespace: 0,
+                index: _
+            }
+        )
     }
 
     /// The declaration of a function, where it is declared.
@@ -139,6 +168,19 @@ fn found(names: &BTreeMap<String, FuncOrDataId>, name: &str) -> Option<FuncOrDat
     ensures { result ≡ get_by_text names.now name.now }
 {
     names.get(name).copied()
+}
+
+// Whether a function was found.
+fn is_function_id(found: Option<FuncOrDataId>) -> bool
+    ensures { result ≡ is_some (function_found found) }
+{
+    match found {
+        Some(known) => match known {
+            FuncOrDataId::Func(_) => true,
+            FuncOrDataId::Data(_) => false,
+        },
+        None => false,
+    }
 }
 
 // A known function keeps its number and its signature, and gets the greater linkage.
