@@ -1,8 +1,8 @@
 -- Elements of lists by their places.
-use Rattle.std.proofs.Common.{◌≡◌, ℕ, zero, suc, ◌+◌, ◌-◌, ◌<◌, ◌≤◌, List, [], ◌∷◌, ◌++◌, length, take, map, refl, ap, sym, ◌∙◌, arith, Option, Some, None, Bool, true, false, slice_get, ◌⊎◌, inl, inr, cond, get_or, drop, subst}
+use Rattle.std.proofs.Common.{◌≡◌, ℕ, zero, suc, ◌+◌, ◌-◌, ◌<◌, ◌≤◌, List, [], ◌∷◌, ◌++◌, length, take, map, refl, ap, sym, ◌∙◌, arith, Option, Some, None, Bool, true, false, slice_get, ◌⊎◌, inl, inr, cond, get_or, drop, subst, append_assoc, append-nil}
 use Rattle.std.specs.Prelude.{filter, count_by, sum_by, flat_map}
 use Rattle.std.proofs.lemmas.List.Sums.{sum_by-cons}
-use Rattle.std.proofs.lemmas.List.{drop_more, take_more}
+use Rattle.std.proofs.lemmas.List.{drop_more, take_more, drop_all}
 use Rattle.std.proofs.lemmas.Option.{slice_get_read}
 
 pub get_left : {X : Type 0} (xs ys : List X) (k : ℕ) (x : X) → slice_get xs k ≡ Some x → slice_get (xs ++ ys) k ≡ Some x
@@ -91,3 +91,10 @@ each_more P xs i x h e before here k y l g = each_here_or_before P xs i x (item_
 -- what holds of each element before the end holds of each
 pub each_all : {X : Type 0} (P : X → Type 0) (xs : List X) (i : ℕ) → length xs ≤ i → ((k : ℕ) (y : X) → k < i → slice_get xs k ≡ Some y → P y) → (k : ℕ) (y : X) → slice_get xs k ≡ Some y → P y
 each_all P xs i h before k y g = before k y (omega (arith, get_within xs k y g)) g
+
+-- the bytes of the item are written, then those that are left
+pub flat_more : {X : Type 0} (f : X → List ℕ) (x : X) (left rest : List X) (out new all : List ℕ) → left ≡ x ∷ rest → new ≡ out ++ f x → out ++ flat_map f left ≡ all → new ++ flat_map f rest ≡ all
+flat_more f x left rest out new all e n a = rw (n, append_assoc) (rw e at a)
+
+pub flat_all : {X : Type 0} (f : X → List ℕ) (xs : List X) (i : ℕ) (out all : List ℕ) → length xs ≤ i → out ++ flat_map f (drop i xs) ≡ all → out ≡ all
+flat_all f xs i out all h a = sym (append-nil out) ∙ ap (λ left. out ++ flat_map f left) (sym (drop_all i xs h)) ∙ a

@@ -1,5 +1,5 @@
 -- What the functions of the writer append, in the terms of an object.
-use Rattle.std.specs.Prelude.{◌≡◌, ℕ, ◌+◌, ◌*◌, ◌<◌, ◌≤◌, ◌^◌, Bool, true, List, [], ◌∷◌, ◌++◌, length, map, filter, flat_map, sum_by, slice_get, Some, FitsSigned, if◌then◌else◌}
+use Rattle.std.specs.Prelude.{◌≡◌, ℕ, ◌+◌, ◌*◌, ◌<◌, ◌≤◌, ◌^◌, Bool, true, List, [], ◌∷◌, ◌++◌, length, map, filter, flat_map, sum_by, slice_get, slice_index, not, ◌==◌, Some, FitsSigned, if◌then◌else◌}
 use Rattle.std.specs.Int.{w64}
 use Rattle.byte_core.specs.LaidOut.{Aligned}
 use Rattle.object_core.specs.declared.symbol.Symbol.{Symbol}
@@ -7,7 +7,8 @@ use Rattle.object_core.specs.declared.relocation.Relocation.{Relocation}
 use Rattle.object_core.specs.Object.{SectionData, is_local, is_global, is_in_section}
 use Rattle.object_core.specs.ElfRows.{elf_shndx, elf_symbol, elf_section, elf_relocation, elf_type_of, row_in}
 use Rattle.object_core.specs.LinkTable.{ElfTableSymbol, ElfTableSection}
-use Rattle.object_elf.specs.Layout.{is_relocated}
+use Rattle.image_read.specs.ElfFile.{ElfRelocationRow}
+use Rattle.object_elf.specs.Layout.{is_relocated, with_zero}
 use Rattle.object_elf.specs.ElfHolds.{record_for}
 use Rattle.object_elf.specs.File.{section_contents, relocation_contents, relocation_row_bytes}
 
@@ -70,3 +71,25 @@ NameSymbols count relocations = (k : ℕ) (r : Relocation) → slice_get relocat
 -- the bytes of the records
 abbrev pub record_bytes : List Symbol → List Relocation → List ℕ
 record_bytes symbols relocations = flat_map (λ r. relocation_row_bytes (record_for (elf_relocation symbols r))) relocations
+
+-- a relocation with its symbol's row taken from a list of rows
+abbrev pub record_by : List ℕ → Relocation → ElfRelocationRow
+record_by rows r = record { offset = r.offset; symbol = slice_index rows r.symbol; r_type = elf_type_of r.flags; addend = r.addend }
+
+-- the bytes of such records
+abbrev pub record_bytes_by : List ℕ → List Relocation → List ℕ
+record_bytes_by rows relocations = flat_map (λ r. relocation_row_bytes (record_by rows r)) relocations
+
+-- the section has relocations
+abbrev pub has_relocations : SectionData → Bool
+has_relocations s = not (length s.relocations == 0)
+
+-- the records of a section
+abbrev pub records_at : List ℕ → SectionData → Aligned
+records_at rows s = record { align = 8; bytes = record_bytes_by rows s.relocations }
+
+-- -- names
+
+-- the bytes of the names of the local symbols, or of the others
+abbrev pub chosen_names : Bool → List Symbol → List ℕ
+chosen_names local symbols = flat_map with_zero (map (λ s. s.name) (chosen local symbols))

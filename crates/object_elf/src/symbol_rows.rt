@@ -31,6 +31,13 @@ pub(crate) fn is_chosen(symbol: &Symbol, local: bool) -> bool
     }
 }
 
+/// How many symbols are local.
+pub(crate) fn local_count(symbols: &[Symbol]) -> usize
+    ensures { result ≡ count_by is_local symbols.now }
+{
+    symbols.iter().filter(|symbol| is_local(symbol)).count()
+}
+
 /// Appends the rows of the local symbols, or of the others. Their names stand one after the other from `place` on, and
 /// the answer is the place behind them.
 pub(crate) fn push_symbol_rows(
