@@ -1,5 +1,5 @@
 -- The bytes of a number, and the number of bytes.
-use Rattle.std.proofs.Common.{◌≡◌, ℕ, zero, suc, ◌+◌, ◌*◌, ◌^◌, ◌<◌, ◌≤◌, ◌%◌, ◌/◌, List, [], ◌∷◌, ◌++◌, length, refl, ap, arith, pow-suc}
+use Rattle.std.proofs.Common.{◌≡◌, ℕ, zero, suc, ◌^◌, ◌<◌, ◌/◌, length, refl, ap, arith, pow-suc}
 use Rattle.byte_core.specs.Number.{little_number, little_bytes}
 
 pub length-little_bytes : (w n : ℕ) → length (little_bytes w n) ≡ w

@@ -1,9 +1,9 @@
 -- What stands at a place of a file, and what is read there.
-use Rattle.std.proofs.Common.{◌≡◌, ℕ, zero, suc, ◌+◌, ◌-◌, ◌*◌, ◌^◌, ◌<◌, ◌≤◌, ◌==◌, List, [], ◌∷◌, ◌++◌, length, take, drop, refl, ap, sym, ◌∙◌, append_assoc, append-nil, arith, length-append, zero-add, add-zero, Option, Some, None, Bool, true, false, ◌||◌, slice_get, option_map, subst}
+use Rattle.std.proofs.Common.{◌≡◌, ℕ, zero, suc, ◌+◌, ◌-◌, ◌*◌, ◌^◌, ◌<◌, ◌≤◌, ◌==◌, List, [], ◌∷◌, ◌++◌, length, take, drop, refl, ap, sym, ◌∙◌, append_assoc, append-nil, arith, length-append, zero-add, add-zero, Some, Bool, false, slice_get}
 use Rattle.std.specs.Prelude.{flat_map}
 use Rattle.std.specs.List.{position_from, list_any}
 use Rattle.std.proofs.lemmas.Bool.{or_parts}
-use Rattle.std.proofs.lemmas.List.{take_at, drop_at, length-take, take-append-le}
+use Rattle.std.proofs.lemmas.List.{take_at, drop_at}
 use Rattle.byte_core.specs.declared.fields.Field.{Field}
 use Rattle.byte_core.specs.Number.{bytes_at, number_at, little_number, little_bytes, text_at}
 use Rattle.byte_core.specs.Fields.{field_bytes, field_offset, FitsWidth}

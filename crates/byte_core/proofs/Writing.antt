@@ -1,5 +1,5 @@
 -- What was written so far, before what is still to be written.
-use Rattle.std.proofs.Common.{◌≡◌, ℕ, zero, suc, ◌+◌, ◌-◌, ◌*◌, ◌%◌, ◌/◌, ◌^◌, ◌<◌, ◌≤◌, List, [], ◌∷◌, ◌++◌, length, take, drop, get_or, refl, ap, sym, ◌∙◌, add-one, append_assoc, append-nil, arith, drop-cons, length-append, lit<, pow-suc, reverse}
+use Rattle.std.proofs.Common.{◌≡◌, ℕ, zero, suc, ◌+◌, ◌-◌, ◌*◌, ◌%◌, ◌/◌, ◌^◌, ◌<◌, ◌≤◌, List, [], ◌∷◌, ◌++◌, length, take, drop, get_or, refl, ap, sym, ◌∙◌, append_assoc, append-nil, arith, length-append, lit<, reverse}
 use Rattle.std.proofs.lemmas.List.{drop_all, take-append-drop, drop-set-lt, length-take, take_at, drop_at, take_more, drop_more, reverse-append, take-append-le}
 use Rattle.std.proofs.Math.Seq.{take-suc-set}
 use Rattle.std.proofs.Math.ListN.{set}

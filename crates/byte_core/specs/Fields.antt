@@ -1,5 +1,5 @@
 -- Numbers written one after another.
-use Rattle.std.specs.Prelude.{◌≡◌, ℕ, zero, suc, ◌+◌, ◌^◌, ◌<◌, List, [], ◌∷◌, ◌++◌}
+use Rattle.std.specs.Prelude.{ℕ, zero, suc, ◌+◌, ◌^◌, ◌<◌, List, [], ◌∷◌, ◌++◌}
 use Rattle.byte_core.specs.declared.fields.Field.{Field}
 use Rattle.byte_core.specs.Number.{little_bytes}
 

@@ -84,13 +84,15 @@ impl Object {
     pub fn sections(&self) -> &[Section]
         ensures value { result.now ≡ (self.now).sections }
         ensures sound { AreSections (self.now).sections (self.now).content_sum }
+        ensures bound { length (self.now).sections < 2 ^ 63 }
     {
         &self.sections
     }
 
     /// The symbols in order of creation.
     pub fn symbols(&self) -> &[Symbol]
-        ensures { result.now ≡ (self.now).symbols }
+        ensures value { result.now ≡ (self.now).symbols }
+        ensures bound { length (self.now).symbols < 2 ^ 63 }
     {
         &self.symbols
     }

@@ -1,4 +1,4 @@
-use Rattle.std.proofs.Common.{arith, sym, ◌∙◌, refl, ap, length, ◌≤◌, ◌<◌, ◌+◌, ◌*◌, ◌^◌, drop}
+use Rattle.std.proofs.Common.{arith, sym, length, ◌<◌, ◌+◌, ◌*◌, ◌^◌, drop}
 use Rattle.std.proofs.lemmas.List.{length-drop, take_rest}
 use Rattle.byte_core.proofs.Writing.{number_head, number_nothing, number_room}
 use Rattle.byte_core.proofs.number.+little_number_of.Goals as goal

@@ -1,4 +1,4 @@
-use Rattle.std.proofs.Common.{◌≡◌, ◌<◌, ◌≤◌, ◌^◌, ◌*◌, ◌+◌, arith, add-one, pow-suc, length}
+use Rattle.std.proofs.Common.{arith, add-one, pow-suc}
 use Rattle.byte_core.proofs.Writing.{big_none, big_more, number_room}
 use Rattle.byte_core.proofs.number.big_number_of.Goals as goal
 
