@@ -55,6 +55,13 @@ impl LibcallNames {
         self.texts[place(call)].as_str()
     }
 
+    /// All texts, in the order of the calls.
+    pub fn texts(&self) -> &[String]
+        ensures { map string_bytes result.now ≡ self.now }
+    {
+        &self.texts
+    }
+
     /// Gives a call another text.
     pub fn set(&mut self, call: LibCall, text: &str) -> Result<(), AllocError>
         ensures ok { OnOk result (self.new ≡ slice_set self.old (library_place call) text.now) }

@@ -82,3 +82,14 @@ free_row defined id align (Some r) h = not_refused defined (duplicate_definition
 -- and has no definition yet
 pub definable_free : (defined : Bool) (id align : ℕ) (functions : List FunctionRow) → undefinable defined id align (slice_get functions id) ≡ None → defined ≡ false
 definable_free defined id align functions h = free_row defined id align (slice_get functions id) h
+
+-- -- declarations
+
+pub refusal_name : (s : LinkState) (name : List ℕ) (linkage : Linkage) (signature : SignatureData) (e : ModuleError) → Tells e (zero_byte name) → Tells e (refusal s (declare_function name linkage signature))
+unfolding refusal
+refusal_name s name linkage signature e h = tells_first e (zero_byte name) (function_clash s.functions s.objects name signature) h
+
+pub refusal_declared : (s : LinkState) (name : List ℕ) (linkage : Linkage) (signature : SignatureData) (functions : List FunctionRow) (objects : List DataRow) → zero_byte name ≡ None → functions ≡ s.functions → objects ≡ s.objects
+    → refusal s (declare_function name linkage signature) ≡ function_clash functions objects name signature
+unfolding refusal
+refusal_declared s name linkage signature functions objects h e f = rw (h, e, f) refl

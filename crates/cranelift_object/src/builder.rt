@@ -1,14 +1,13 @@
 //! What a module is begun with: its target, the file's name and the options.
 
-ghost use Rattle.std.specs.Prelude.{◌≡◌, ◌≢◌, false, None, IfOk, IfErr, OnOk};
+ghost use Rattle.std.specs.Prelude.{◌≡◌, ◌≢◌, None, map, string_bytes, IfOk, IfErr, OnOk};
 ghost use Rattle.ir_core.specs.declared.target.BinaryFormat.TheVariants.{Macho};
-ghost use Rattle.cranelift_module.specs.Refusal.{Tells};
+ghost use Rattle.cranelift_module.specs.Refusal.{Tells, first_cause, zero_byte};
 ghost use Rattle.cranelift_object.specs.Settings.{plain_settings};
 ghost use Rattle.cranelift_object.specs.Kept.{IsBegun};
 ghost use Rattle.cranelift_object.specs.Part.{start_cause, is_supported};
 
-use crate::LibcallNames;
-use cranelift_module::{BackendCause, ModuleError, ModuleResult, check_no_zero_byte};
+use cranelift_module::{BackendCause, LibcallNames, ModuleError, ModuleResult, check_no_zero_byte};
 use ir_core::{Architecture, BinaryFormat, TargetIsa};
 use std::alloc::Global;
 use std::marker::Model;
@@ -57,7 +56,7 @@ impl ObjectBuilder {
             return Err(ModuleError::Backend(BackendCause::UnsupportedTarget));
         }
         check_no_zero_byte(name)?;
-        libcall_names.check()?;
+        check_texts(libcall_names.texts())?;
         let name = name.to_vec(alloc)?;
         Ok(ObjectBuilder {
             alloc,
@@ -125,4 +124,18 @@ fn is_supported(architecture: Architecture, format: BinaryFormat) -> bool
         }
         _ => false,
     }
+}
+
+// Refuses the first text that has a zero byte.
+#[tactic(auto, using(crate::proofs::FirstCause::texts_step, crate::proofs::FirstCause::texts_end))]
+fn check_texts(texts: &[String]) -> ModuleResult<()>
+    ensures accepted { OnOk result (first_cause (map zero_byte (map string_bytes texts.now)) ≡ None) }
+    ensures refused { IfErr result (λ e. Tells e (first_cause (map zero_byte (map string_bytes texts.now)))) }
+{
+    for text in texts {
+        if let Err(error) = check_no_zero_byte(text.as_bytes()) {
+            return Err(error);
+        }
+    }
+    Ok(())
 }

@@ -8,8 +8,9 @@ ghost use Rattle.cranelift_module.specs.Refusal.{Tells, refusal};
 ghost use Rattle.cranelift_object.specs.Commands.{command_view, makes_function, IsPlainCall};
 ghost use Rattle.cranelift_object.specs.Settings.{plain_settings};
 
-use crate::LibcallNames;
-use cranelift_module::{FuncId, Linkage, Module, ModuleError, ModuleReloc, ModuleResult};
+use cranelift_module::{
+    FuncId, LibcallNames, Linkage, Module, ModuleError, ModuleReloc, ModuleResult,
+};
 use ir_core::{Signature, TargetIsa};
 use std::alloc::{AllocError, Global};
 use std::marker::Model;
