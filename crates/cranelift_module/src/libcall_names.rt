@@ -1,6 +1,6 @@
 //! The texts under which calls into the runtime are linked.
 
-ghost use Rattle.std.specs.Prelude.{◌≡◌, ◌<◌, ◌++◌, ◌∷◌, [], Some, IfOk, OnOk, OnErr, slice_get, string_bytes, map, take, length};
+ghost use Rattle.std.specs.Prelude.{◌≡◌, ◌<◌, ◌++◌, ◌∷◌, [], Some, IfOk, OnOk, OnErr, slice_get, string_bytes, map, take, length, vec_len};
 ghost use Rattle.cranelift_module.specs.LibraryNames.{library_place, usual_texts};
 
 use ir_core::LibCall;
@@ -62,6 +62,15 @@ impl LibcallNames {
         &self.texts
     }
 
+    /// An equal table.
+    pub fn copy(&self) -> Result<LibcallNames, AllocError>
+        ensures { IfOk result (λ names. names ≡ self.now) }
+    {
+        Ok(LibcallNames {
+            texts: copies_of(&self.texts)?,
+        })
+    }
+
     /// Gives a call another text.
     pub fn set(&mut self, call: LibCall, text: &str) -> Result<(), AllocError>
         ensures ok { OnOk result (self.new ≡ slice_set self.old (library_place call) text.now) }
@@ -82,6 +91,18 @@ pub fn default_libcall_names(alloc: Global) -> Result<LibcallNames, AllocError>
         texts.push(String::from_str(alloc, text)?)?;
     }
     Ok(LibcallNames { texts })
+}
+
+fn copies_of(texts: &Vec<String>) -> Result<Vec<String>, AllocError>
+    ensures texts { IfOk result (λ copies. map string_bytes copies.items ≡ map string_bytes (texts.now).items) }
+    ensures len { IfOk result (λ copies. vec_len copies ≡ vec_len texts.now) }
+{
+    let alloc = *texts.allocator();
+    let mut copies = Vec::new(alloc);
+    for text in texts {
+        copies.push(String::from_str(alloc, text.as_str())?)?;
+    }
+    Ok(copies)
 }
 
 // The place of a call in the table.

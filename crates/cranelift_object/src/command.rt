@@ -16,7 +16,7 @@ use std::alloc::{AllocError, Global};
 use std::marker::Model;
 
 /// A call of a module. Data and its definitions come with a later stage.
-#[derive(Drop)]
+#[derive(Debug, Drop)]
 pub enum Command {
     DeclareFunction {
         name: String,

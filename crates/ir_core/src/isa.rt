@@ -1,6 +1,6 @@
 //! A target with its flags, and what a front end needs to know of it.
 
-ghost use Rattle.std.specs.Prelude.{◌≡◌, [], ◌∷◌, ◌++◌, OnOk, OnErr};
+ghost use Rattle.std.specs.Prelude.{◌≡◌, [], ◌∷◌, ◌++◌, IfOk, OnOk, OnErr};
 ghost use Rattle.ir_core.specs.Target.{symbol_alignment, default_call_conv, pointer_bytes};
 
 use crate::{Architecture, BinaryFormat, CallConv, Triple};
@@ -82,6 +82,16 @@ impl TargetIsa {
         Ok(())
     }
 
+    /// An equal target.
+    pub fn copy(&self) -> Result<TargetIsa, AllocError>
+        ensures { IfOk result (λ target. target ≡ self.now) }
+    {
+        Ok(TargetIsa {
+            triple: self.triple,
+            flags: copies_of(&self.flags)?,
+        })
+    }
+
     /// What files are made for.
     pub fn triple(&self) -> &Triple
         ensures { result.now ≡ (self.now).triple }
@@ -126,6 +136,21 @@ impl TargetIsa {
             pointer_bytes: pointer_bytes(self.triple.architecture),
         }
     }
+}
+
+fn copies_of(flags: &Vec<Flag>) -> Result<Vec<Flag>, AllocError>
+    ensures { IfOk result (λ copies. copies.items ≡ (flags.now).items) }
+{
+    let alloc = *flags.allocator();
+    let mut copies = Vec::new(alloc);
+    for flag in flags {
+        let name = String::from_str(alloc, flag.name())?;
+        copies.push(Flag {
+            name,
+            value: flag.value(),
+        })?;
+    }
+    Ok(copies)
 }
 
 fn pointer_bytes(architecture: Architecture) -> u8

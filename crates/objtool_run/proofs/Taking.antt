@@ -1,5 +1,5 @@
 -- What was taken and written over several calls.
-use Rattle.std.proofs.Common.{◌≡◌, ℕ, ◌+◌, ◌-◌, ◌≤◌, List, [], ◌∷◌, ◌++◌, length, take, drop, Option, Some, None, option_map, IfSome, refl, ap, sym, ◌∙◌, arith, length-append, append-nil, append_assoc}
+use Rattle.std.proofs.Common.{◌≡◌, ℕ, ◌+◌, ◌-◌, ◌<◌, ◌≤◌, List, [], ◌∷◌, ◌++◌, length, take, drop, Option, Some, None, option_map, IfSome, refl, ap, sym, ◌∙◌, arith, length-append, append-nil, append_assoc}
 use Rattle.std.proofs.Math.Seq.{take-add}
 use Rattle.std.proofs.lemmas.List.{take_rest}
 use Rattle.byte_core.specs.Outside.{Outside, ChangesInput, ChangesOutput, ChangesErrors, TakesInput, Appends, IsAtEnd}
@@ -54,3 +54,11 @@ whole_at bytes x (Some rest) e n = let r : rest ≡ [] = cc in rw (e, r, append-
 -- what was taken to the end is the known input
 pub taken_whole : (old now : Outside) (bytes : List ℕ) → TakesInput old now bytes → IsAtEnd now → IfSome old.input (λ input. bytes ≡ input)
 taken_whole old now bytes t n = whole_at bytes old.input now.input t.input n
+
+long_at : (bytes : List ℕ) (n : ℕ) (x y : Option (List ℕ)) → x ≡ option_map (λ rest. bytes ++ rest) y → n < length bytes → IfSome x (λ input. n < length input)
+long_at bytes n x None e h = rw e tt
+long_at bytes n x (Some rest) e h = rw e (omega (arith, length-append bytes rest))
+
+-- a known input has all that was taken
+pub taken_long : (old now : Outside) (bytes : List ℕ) (n : ℕ) → TakesInput old now bytes → n < length bytes → IfSome old.input (λ input. n < length input)
+taken_long old now bytes n t h = long_at bytes n old.input now.input t.input h

@@ -1,3 +1,5 @@
 pub mod Words
-pub mod Status
+pub mod Fault
 pub mod Form
+pub mod Script
+pub mod Run

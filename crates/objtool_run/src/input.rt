@@ -31,6 +31,7 @@ pub fn read_input<H: Host>(alloc: Global, host: &mut H) -> Result<Vec<u8>, Input
     ensures end { OnOk result (IsAtEnd (H.outside host.new)) }
     ensures too_long { (H.outside host.new).taken < last_count
         → (IsErrOf result InputError.TooLong ↔ (INPUT_LIMIT < (H.outside host.new).taken - (H.outside host.old).taken)) }
+    ensures long { IsErrOf result InputError.TooLong → IfSome (H.outside host.old).input (λ input. INPUT_LIMIT < length input) }
     ensures at_most { (H.outside host.new).taken ≤ risen (H.outside host.old).taken (INPUT_LIMIT + 1) }
     ensures failed { IsErrOf result InputError.Failed → Rose (H.outside host.old).read_faults (H.outside host.new).read_faults }
     ensures others { ChangesInput (H.outside host.old) (H.outside host.new) }
@@ -42,7 +43,7 @@ pub fn read_input<H: Host>(alloc: Global, host: &mut H) -> Result<Vec<u8>, Input
 }
 
 /// Takes the input to its end, a block at a time.
-#[tactic(auto, using(crate::proofs::Taking::taken_nothing, crate::proofs::Taking::taken_again, crate::proofs::Taking::changes_input_again, crate::proofs::Taking::taken_whole))]
+#[tactic(auto, using(crate::proofs::Taking::taken_nothing, crate::proofs::Taking::taken_again, crate::proofs::Taking::changes_input_again, crate::proofs::Taking::taken_whole, crate::proofs::Taking::taken_long))]
 fn take_blocks<H: Host>(
     alloc: Global,
     host: &mut H,
@@ -55,6 +56,7 @@ fn take_blocks<H: Host>(
     ensures end { OnOk result (IsAtEnd (H.outside host.new)) }
     ensures too_long { (H.outside host.new).taken < last_count
         → (IsErrOf result InputError.TooLong ↔ (INPUT_LIMIT < (H.outside host.new).taken - (H.outside host.old).taken)) }
+    ensures long { IsErrOf result InputError.TooLong → IfSome (H.outside host.old).input (λ input. INPUT_LIMIT < length input) }
     ensures at_most { (H.outside host.new).taken ≤ risen (H.outside host.old).taken (INPUT_LIMIT + 1) }
     ensures failed { IsErrOf result InputError.Failed → Rose (H.outside host.old).read_faults (H.outside host.new).read_faults }
     ensures others { ChangesInput (H.outside host.old) (H.outside host.new) }

@@ -4,15 +4,19 @@
 //! It stands on every library of the repository. The program calls [`run`] and nothing else.
 #![tactic(auto)]
 
+mod build;
+mod fault;
 mod input;
 mod output;
+mod program;
 mod script;
-mod status;
 mod words;
 
+pub use build::answer;
+pub use fault::Fault;
 pub use input::{INPUT_LIMIT, InputError, read_input};
 pub use output::{write_fault_text, write_output};
-pub use script::fields::{has_keys_within, hex_at, items_at, number_at, text_at, u32_at};
+pub use program::run;
+pub use script::command::commands_of;
 pub use script::form::FormError;
-pub use status::Status;
 pub use words::is_build;

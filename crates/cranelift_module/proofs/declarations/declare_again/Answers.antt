@@ -16,7 +16,7 @@ pub returns-then-not-is_same-clause-refused : goal.returns-then-not-is_same-clau
 returns-then-not-is_same-clause-refused c =
     changes-at c.args.functions.now.items c.args.name.now c.args.id c.args.signature.now c.index_mut-known.result.now c.requires (rw (← c.as_u32.ensures) c.index_mut-known.ensures.value)
     ∙ changes-refused c.args.name.now (string_bytes c.in_ok-name.name) c.args.signature.now c.in_ok-old.old c.in_ok-new.new c.index_mut-known.result.now
-    (ap (λ (s : SignatureData). is_same_signature s c.args.signature.now) (sym c.signature.ensures) ∙ sym c.is_same.ensures ∙ c.if-not-is_same.true) c.in_ok-name.ensures.ok
+    (ap (λ (s : SignatureData). is_same_signature s c.args.signature.now) (sym c.signature.ensures) ∙ sym c.is_same.ensures.same ∙ c.if-not-is_same.true) c.in_ok-name.ensures.ok
     (c.in_ok-old.ensures ∙ c.signature-then-not-is_same.ensures)
     c.in_ok-new.ensures
 
@@ -24,7 +24,7 @@ pub returns-clause-accepted : goal.returns-clause-accepted
 returns-clause-accepted c =
     changes-at c.args.functions.now.items c.args.name.now c.args.id c.args.signature.now c.index_mut-known.result.now c.requires (rw (← c.as_u32.ensures) c.index_mut-known.ensures.value)
     ∙ changes-none c.args.name.now c.args.signature.now c.index_mut-known.result.now
-    (ap (λ (s : SignatureData). is_same_signature s c.args.signature.now) (sym c.signature.ensures) ∙ sym c.is_same.ensures ∙ c.if-not-is_same.false)
+    (ap (λ (s : SignatureData). is_same_signature s c.args.signature.now) (sym c.signature.ensures) ∙ sym c.is_same.ensures.same ∙ c.if-not-is_same.false)
 
 pub returns-clause-found : goal.returns-clause-found
 returns-clause-found c = set-changed (raised_function c.args.linkage) c.args.functions.now.items c.args.id c.as_u32.result c.index_mut-known.result.now c.raise.new.self c.as_u32.ensures c.raise.ensures c.index_mut-known.ensures.value

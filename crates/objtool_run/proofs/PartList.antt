@@ -1,0 +1,42 @@
+-- Lists of one part, and what their commands are.
+use Rattle.std.proofs.Common.{◌≡◌, ◌≢◌, ℕ, ◌<◌, ◌≤◌, List, [], ◌∷◌, map, length, get_or, Bool, true, false, cond, ◌&&◌, bytes_eq, codes, Option, Some, None, refl, ap, sym, ◌∙◌, arith}
+use Rattle.std.specs.List.{All}
+use Rattle.serde_json.specs.Data.{Data, Items, item, no_items}
+use Rattle.serde_json.specs.View.{view, items_view}
+use Rattle.serde_json.specs.declared.value.Value.{Value}
+use Rattle.cranelift_module.specs.Call.{Call, declare_function, define_function}
+use Rattle.cranelift_object.specs.Commands.{IsPlainCall}
+use Rattle.image_build.specs.Built.{BuildPart, commands}
+use Rattle.objtool_run.specs.Form.{◌>>=◌, with_keys, text_at, items_at, u32_at, hex_at, has_keys_within}
+use Rattle.objtool_run.specs.Script.{linkage_of, declare_of, define_of, command_of, commands_of, part_of, part_with, one_part, is_built, default_signature}
+
+pub one_part_refused : (vs : List Value) → (length vs ≡ 1 → ⊥) → one_part (items_view vs) ≡ None
+one_part_refused [] h = refl
+one_part_refused (v ∷ []) h = absurd (h refl)
+one_part_refused (v ∷ w ∷ vs) h = refl
+
+pub one_part_taken : (vs : List Value) (v : Value) (part : BuildPart) → length vs ≡ 1 → v ≡ get_or vs 0 v → part_of (view v) ≡ Some part → one_part (items_view vs) ≡ Some (part ∷ [])
+one_part_taken [] v part h e p = absurd (omega arith)
+one_part_taken (w ∷ []) v part h e p = rw (← e, p) refl
+one_part_taken (w ∷ x ∷ vs) v part h e p = absurd (omega arith)
+
+pub one_part_stopped : (vs : List Value) (v : Value) → length vs ≡ 1 → v ≡ get_or vs 0 v → part_of (view v) ≡ None → one_part (items_view vs) ≡ None
+one_part_stopped [] v h e p = absurd (omega arith)
+one_part_stopped (w ∷ []) v h e p = rw (← e, p) refl
+one_part_stopped (w ∷ x ∷ vs) v h e p = absurd (omega arith)
+
+-- -- commands of the form are plain
+
+-- what a step gives, it gives of what the step before gave
+given : {A B : Type 0} (o : Option A) (f : A → Option B) (y : B) → (o >>= f) ≡ Some y → (x : A) × (o ≡ Some x) × (f x ≡ Some y)
+given None f y h = absurd (cc)
+given (Some x) f y h = (x, refl, h)
+
+tested : {A : Type 0} (b : Bool) (o : Option A) (y : A) → cond b o None ≡ Some y → o ≡ Some y
+tested true o y h = h
+tested false o y h = absurd (cc)
+
+declare_plain : (d : Data) (c : Call) → declare_of d ≡ Some c → IsPlainCall c
+unfolding declare_of
+declare_plain d c h =
+    let (name, e, after) = given (text_at (codes "name") d) _ c (tested (has_keys_within (codes "op" ∷ codes "name" ∷ codes "linkage" ∷ []) d) _ c h) in ?

@@ -1,0 +1,163 @@
+-- The list of parts that a JSON value stands for.
+use Rattle.std.specs.Prelude.{◌≡◌, ℕ, ◌==◌, ◌&&◌, Bool, true, false, not, List, [], ◌∷◌, length, slice_get, codes, if◌then◌else◌, Option, Some, None}
+use Rattle.std.specs.List.{list_any, list_all, filter_map}
+use Rattle.std.specs.Str.{bytes_eq, IsUtf8}
+use Rattle.serde_json.specs.Data.{Data, Items, no_items, item}
+use Rattle.serde_json.specs.Find.{as_array}
+use Rattle.serde_json.specs.Read.{read}
+use Rattle.ir_core.specs.Moments.{Moment, moments}
+use Rattle.ir_core.specs.Signature.{SignatureData}
+use Rattle.ir_core.specs.Target.{Target}
+use Rattle.ir_core.specs.declared.types.CallConv.TheVariants.{SystemV}
+use Rattle.ir_core.specs.declared.target.Architecture.TheVariants.{X86_64}
+use Rattle.ir_core.specs.declared.target.BinaryFormat.TheVariants.{Elf}
+use Rattle.ir_core.specs.declared.target.System.TheVariants as systems
+use Rattle.ir_core.specs.declared.target.Environment.TheVariants as environments
+use Rattle.cranelift_module.specs.declared.linkage.Linkage.{Linkage}
+use Rattle.cranelift_module.specs.declared.linkage.Linkage.TheVariants.{Import, Local, Preemptible, Hidden, Export}
+use Rattle.cranelift_module.specs.Call.{Call, declare_function, declare_anonymous_function, declare_data, declare_anonymous_data, define_function, define_data}
+use Rattle.cranelift_module.specs.LibraryNames.{usual_texts}
+use Rattle.image_build.specs.Built.{BuildPart, commands}
+use Rattle.objtool_run.specs.Form.{◌>>=◌, text_at, items_at, u32_at, hex_at, with_keys}
+
+-- -- commands
+
+-- the linkages that are built so far
+abbrev pub linkage_of : List ℕ → Option Linkage
+linkage_of text =
+    if bytes_eq text (codes "Import") then Some Import
+    else if bytes_eq text (codes "Local") then Some Local
+    else if bytes_eq text (codes "Export") then Some Export
+    else None
+
+-- the signature of a function that names none: that of the target's default convention
+abbrev pub default_signature : SignatureData
+default_signature = record { params = []; returns = []; call_conv = SystemV }
+
+unfoldable pub declare_of : Data → Option Call
+declare_of d = with_keys (codes "op" ∷ codes "name" ∷ codes "linkage" ∷ []) d do
+  name ← text_at (codes "name") d
+  text ← text_at (codes "linkage") d
+  linkage ← linkage_of text
+  Some (declare_function name linkage default_signature)
+
+unfoldable pub define_of : Data → Option Call
+define_of d = with_keys (codes "op" ∷ codes "id" ∷ codes "bytes" ∷ []) d do
+  id ← u32_at (codes "id") d
+  bytes ← hex_at (codes "bytes") d
+  Some (define_function id 1 bytes [])
+
+-- a command by its `op`
+unfoldable pub command_of : Data → Option Call
+command_of d = do
+  op ← text_at (codes "op") d
+  if bytes_eq op (codes "declare_function") then declare_of d
+      else if bytes_eq op (codes "define_function") then define_of d
+      else None
+
+unfoldable pub commands_of : Items → Option (List Call)
+commands_of no_items = Some []
+commands_of (item d ds) = command_of d >>= λ c. commands_of ds >>= λ cs. Some (c ∷ cs)
+
+-- -- the parts that are built so far
+
+-- the name and the linkage that a call declares a function with
+abbrev pub declared_name : Call → Option (List ℕ)
+declared_name (declare_function name linkage signature) = Some name
+declared_name (declare_anonymous_function signature) = None
+declared_name (declare_data name linkage writable tls) = None
+declared_name (declare_anonymous_data writable tls) = None
+declared_name (define_function id align contents relocs) = None
+declared_name (define_data id d) = None
+
+abbrev pub declared_linkage : Call → Option Linkage
+declared_linkage (declare_function name linkage signature) = Some linkage
+declared_linkage (declare_anonymous_function signature) = None
+declared_linkage (declare_data name linkage writable tls) = None
+declared_linkage (declare_anonymous_data writable tls) = None
+declared_linkage (define_function id align contents relocs) = None
+declared_linkage (define_data id d) = None
+
+-- no text stands among those before it
+unfoldable pub is_distinct : List (List ℕ) → Bool
+is_distinct texts = list_all (λ m. not (list_any (bytes_eq m.here) m.before)) (moments texts)
+
+abbrev pub has_zero_byte : List ℕ → Bool
+has_zero_byte text = list_any (λ x. x == 0) text
+
+abbrev pub is_import : Option Linkage → Bool
+is_import None = false
+is_import (Some Import) = true
+is_import (Some Local) = false
+is_import (Some Preemptible) = false
+is_import (Some Hidden) = false
+is_import (Some Export) = false
+
+-- the call defines a function that is declared with the linkage Import
+abbrev pub defines_import : List Linkage → Call → Bool
+defines_import linkages (declare_function name linkage signature) = false
+defines_import linkages (declare_anonymous_function signature) = false
+defines_import linkages (declare_data name linkage writable tls) = false
+defines_import linkages (declare_anonymous_data writable tls) = false
+defines_import linkages (define_function id align contents relocs) = is_import (slice_get linkages id)
+defines_import linkages (define_data id d) = false
+
+-- no name is declared twice or has a zero byte, the file's included, and no import is defined
+unfoldable pub is_built : List ℕ → List Call → Bool
+is_built file calls =
+    not (has_zero_byte file)
+    && (not (list_any has_zero_byte (filter_map declared_name calls))
+    && (is_distinct (filter_map declared_name calls)
+    && not (list_any (defines_import (filter_map declared_linkage calls)) calls)))
+
+-- -- parts
+
+-- the target of x86_64 ELF files, without flags
+abbrev pub elf_target : Target
+elf_target = record { triple = record { architecture = X86_64; binary_format = Elf; system = systems.Unknown; version = None; environment = environments.Unknown }; flags = [] }
+
+-- a part without options, with the default library texts
+abbrev pub part_with : List ℕ → List Call → BuildPart
+part_with name calls =
+    commands (record {
+      settings = record { file_name = name; library_names = usual_texts; function_sections = false; data_sections = false };
+      target = elf_target;
+      calls = calls;
+    })
+
+unfoldable pub part_of : Data → Option BuildPart
+part_of d = with_keys (codes "name" ∷ codes "arch" ∷ codes "format" ∷ codes "commands" ∷ []) d do
+  name ← text_at (codes "name") d
+  arch ← text_at (codes "arch") d
+  format ← text_at (codes "format") d
+  items ← items_at (codes "commands") d
+  calls ← commands_of items
+  if bytes_eq arch (codes "x86_64") && (bytes_eq format (codes "elf") && is_built name calls) then Some (part_with name calls) else None
+
+abbrev pub one_part : Items → Option (List BuildPart)
+one_part no_items = None
+one_part (item d no_items) = part_of d >>= λ part. Some (part ∷ [])
+one_part (item d (item e ds)) = None
+
+-- a list of one part
+abbrev pub parts_of : Data → Option (List BuildPart)
+parts_of d = as_array d >>= λ ds. one_part ds
+
+-- -- the bytes of an input
+
+-- the bytes are a text, and the text is this JSON value within 127 levels
+pub record HasJson (bytes : List ℕ) (d : Data) : Type 0 where
+  pub utf8 : IsUtf8 bytes
+  pub value : read bytes ≡ Some d
+
+-- the input has no JSON reading
+abbrev pub HasNoJson : List ℕ → Type 0
+HasNoJson input = (d : Data) → HasJson input d → ⊥
+
+-- the input has a reading, and the value isn't of the form built so far
+abbrev pub HasOtherForm : List ℕ → Type 0
+HasOtherForm input = (d : Data) × HasJson input d × (parts_of d ≡ None)
+
+-- the input stands for these parts
+abbrev pub StandsFor : List ℕ → List BuildPart → Type 0
+StandsFor input parts = (d : Data) × HasJson input d × (parts_of d ≡ Some parts)
