@@ -1,6 +1,7 @@
 -- What a declaration leaves, by the number that it answers.
 use Rattle.std.proofs.Common.{◌≡◌, ◌≢◌, ℕ, zero, suc, ◌+◌, ◌<◌, ◌≤◌, ◌++◌, ◌∷◌, List, [], Bool, true, false, ◌||◌, cond, length, map, Option, Some, None, refl, ap, sym, ◌∙◌, subst, arith, inl, inr}
 use Rattle.std.proofs.lemmas.Bool.{cases_Bool}
+use Rattle.std.proofs.lemmas.Bool.Decides.{eqb_tells}
 use Rattle.std.proofs.lemmas.List.Elements.{All-cons, All-head, All-tail, All-nil}
 use Rattle.std.proofs.lemmas.Slice.Eq.{bytes_eq-Decides}
 use Rattle.std.specs.List.{All, list_any, position_from}
@@ -135,6 +136,17 @@ declare_known o marks lists name linkage signature k h free e at other =
     let names = all_first (λ (r : FunctionRow). IsName r.name) (is_function_named name) (raised_function linkage) row rows (λ y p. p) free h.names in
     kept_raised o marks lists h same (rw e names) (ap (λ (l : DeclarationLists). l.objects) e)
 
+-- a module after a declaration that noted its function where it is new
+pub declare_noted : (o : OpenModule) (marks noted : List Bool) (lists : DeclarationLists) (created : List FuncOrDataId) (name : List ℕ) (linkage : Linkage) (signature : SignatureData) (k : ℕ) → IsModule o marks → zero_byte name ≡ None → length o.state.functions < 4294967295
+    → lists ≡ lists_after o name linkage signature → position_from (is_function_named name) 0 lists.functions ≡ Some k → (k ≡ length marks → (created ≡ o.state.created ++ Func k ∷ []) × (noted ≡ marks ++ false ∷ []))
+    → (k ≢ length marks → (created ≡ o.state.created) × (noted ≡ marks))
+    → IsModule (record { settings = o.settings; state = record { target = o.state.target; functions = lists.functions; objects = lists.objects; created = created; definitions = o.state.definitions } }) noted
+declare_noted o marks noted lists created name linkage signature k h free few e at new known =
+    elim (eqb_tells k (length marks)) [
+      | inl q ↦ declare_new o marks noted lists created name linkage signature k h free few e at q.1 (new q.1).0 (new q.1).1
+      | inr q ↦ rw ((known q.1).0, (known q.1).1) (declare_known o marks lists name linkage signature k h free e at q.1)
+    ]
+
 -- -- the step of a declaration
 
 pub step_new : (s : LinkState) (lists : DeclarationLists) (created : List FuncOrDataId) (name : List ℕ) (linkage : Linkage) (signature : SignatureData) (k : ℕ) → lists ≡ record { functions = declared_rows s.functions name linkage signature; objects = s.objects }
@@ -152,3 +164,13 @@ unfolding step
 step_known s lists name linkage signature k e at other =
     let found : position_from (is_function_named name) 0 (declared_rows s.functions name linkage signature) ≡ Some k = sym (ap (λ (l : DeclarationLists). position_from (is_function_named name) 0 l.functions) e) ∙ at in
     rw (is_known_row s.functions name linkage signature k found other, e) refl
+
+pub step_noted : (o : OpenModule) (marks noted : List Bool) (s : LinkState) (lists : DeclarationLists) (created : List FuncOrDataId) (name : List ℕ) (linkage : Linkage) (signature : SignatureData) (k : ℕ) → o.state ≡ s → length marks ≡ length o.state.functions
+    → lists ≡ lists_after o name linkage signature → position_from (is_function_named name) 0 lists.functions ≡ Some k → (k ≡ length marks → (created ≡ o.state.created ++ Func k ∷ []) × (noted ≡ marks ++ false ∷ []))
+    → (k ≢ length marks → (created ≡ o.state.created) × (noted ≡ marks))
+    → record { target = o.state.target; functions = lists.functions; objects = lists.objects; created = created; definitions = o.state.definitions } ≡ step s (declare_function name linkage signature)
+step_noted o marks noted s lists created name linkage signature k same marked e at new known =
+    elim (eqb_tells k (length marks)) [
+      | inl q ↦ step_new o.state lists created name linkage signature k e at (q.1 ∙ marked) (new q.1).0 ∙ ap (λ (t : LinkState). step t (declare_function name linkage signature)) same
+      | inr q ↦ rw ((known q.1).0) (step_known o.state lists name linkage signature k e at (λ r. q.1 (r ∙ sym marked)) ∙ ap (λ (t : LinkState). step t (declare_function name linkage signature)) same)
+    ]

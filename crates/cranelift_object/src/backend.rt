@@ -1,6 +1,6 @@
 //! The module that makes an object file.
 
-ghost use Rattle.std.specs.Prelude.{◌≡◌, ◌<◌, ◌++◌, ◌∷◌, ℕ, [], false, vec_len, vec_capacity, None, Some, length, IfOk, IfErr, OnOk, OnErr};
+ghost use Rattle.std.specs.Prelude.{◌≡◌, ◌≢◌, ◌<◌, ◌++◌, ◌∷◌, ℕ, [], false, vec_len, vec_capacity, None, Some, length, IfOk, IfErr, OnOk, OnErr};
 ghost use Rattle.std.specs.List.{position_from};
 ghost use Rattle.cranelift_module.specs.LinkState.{LinkState, state_of, is_function_named};
 ghost use Rattle.cranelift_module.specs.IsCall.{IsCall};
@@ -90,13 +90,12 @@ impl Module for ObjectModule {
         }
         self.created.reserve(1)?;
         self.defined.reserve(1)?;
-        let id = match self.declarations.declare_function(name, linkage, signature) {
-            Ok((id, _)) => id,
+        let declared = match self.declarations.declare_function(name, linkage, signature) {
+            Ok(declared) => declared,
             Err(error) => return Err(error),
         };
-        if id.as_u32() as usize == self.defined.len() {
-            note_function(&mut self.created, &mut self.defined, id);
-        }
+        let id = declared.0;
+        note_new(&mut self.created, &mut self.defined, id);
         Ok(id)
     }
 
@@ -132,6 +131,18 @@ impl Module for ObjectModule {
         self.definitions.push(definition)?;
         self.defined[func_id.as_u32() as usize] = true;
         Ok(())
+    }
+}
+
+// Notes a function, where no function of its number was noted. Room was made before.
+fn note_new(created: &mut Vec<FuncOrDataId>, defined: &mut Vec<bool>, id: FuncId)
+    requires created { vec_len created.old < vec_capacity created.old }
+    requires defined { vec_len defined.old < vec_capacity defined.old }
+    ensures new { id ≡ length defined.old.items → (created.new.items ≡ created.old.items ++ Func id ∷ []) × (defined.new.items ≡ defined.old.items ++ false ∷ []) }
+    ensures known { id ≢ length defined.old.items → (created.new.items ≡ created.old.items) × (defined.new.items ≡ defined.old.items) }
+{
+    if id.as_u32() as usize == defined.len() {
+        note_function(created, defined, id);
     }
 }
 
