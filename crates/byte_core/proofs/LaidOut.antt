@@ -1,8 +1,8 @@
 -- Where contents that are laid out by alignments stand.
-use Rattle.std.proofs.Common.{◌≡◌, ℕ, zero, suc, ◌+◌, ◌-◌, ◌≤◌, List, [], ◌∷◌, ◌++◌, length, take, refl, append_assoc, arith, length-append, Some, slice_get, replicate}
+use Rattle.std.proofs.Common.{◌≡◌, ℕ, zero, suc, ◌+◌, ◌-◌, ◌≤◌, List, [], ◌∷◌, ◌++◌, length, take, refl, ap, sym, ◌∙◌, append_assoc, append-nil, arith, length-append, Some, slice_get, replicate}
 use Rattle.std.specs.Int.{next_multiple_of}
 use Rattle.std.proofs.lemmas.List.{length-replicate}
-use Rattle.byte_core.specs.LaidOut.{Aligned, end_behind, end_of_aligned, laid_out}
+use Rattle.byte_core.specs.LaidOut.{LaysOut, Aligned, end_behind, end_of_aligned, laid_out}
 use Rattle.byte_core.proofs.Standing.{StandsAt, stands_left, stands_right}
 
 -- the zeros between two places
@@ -73,3 +73,28 @@ contents_stand b at (x ∷ cs) (suc k) c s e =
     let n : at + length gap ≡ next_multiple_of at x.align = omega (arith, length-zeros (next_multiple_of at x.align - at)) in
     let behind = stands_right b gap (x.bytes ++ rest) at (next_multiple_of at x.align) s n in
     contents_stand b (end_behind at x) cs k c (stands_right b x.bytes rest (next_multiple_of at x.align) (end_behind at x) behind refl) e
+
+-- ---- one after the other
+
+pub lays_none : (old : List ℕ) → LaysOut old old []
+unfolding laid_out
+lays_none old = record { bytes = sym (append-nil old) }
+
+pub lays_more : (old mid new : List ℕ) (cs ds : List Aligned) → LaysOut old mid cs → LaysOut mid new ds → LaysOut old new (cs ++ ds)
+lays_more old mid new cs ds f g =
+    let place : length mid ≡ end_of_aligned (length old) cs = ap length f.bytes ∙ length-append old (laid_out (length old) cs) ∙ length-laid_out (length old) cs in
+    record {
+      bytes =
+          g.bytes
+          ∙ ap (λ at. mid ++ laid_out at ds) place
+          ∙ ap (λ m. m ++ laid_out (end_of_aligned (length old) cs) ds) f.bytes
+          ∙ append_assoc old (laid_out (length old) cs) (laid_out (end_of_aligned (length old) cs) ds)
+          ∙ ap (λ rest. old ++ rest) (sym (laid_out-append (length old) cs ds));
+    }
+
+-- zeros up to the alignment, then bytes
+pub lays_one : (old padded new bytes : List ℕ) (align : ℕ) → padded ≡ old ++ zeros (next_multiple_of (length old) align - length old) → new ≡ padded ++ bytes
+    → LaysOut old new (record { align = align; bytes = bytes } ∷ [])
+unfolding laid_out
+lays_one old padded new bytes align p n =
+    record { bytes = n ∙ ap (λ m. m ++ bytes) p ∙ append_assoc old (zeros (next_multiple_of (length old) align - length old)) bytes ∙ ap (λ rest. old ++ (zeros (next_multiple_of (length old) align - length old) ++ rest)) (sym (append-nil bytes)) }

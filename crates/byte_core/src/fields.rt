@@ -1,6 +1,6 @@
 //! Numbers appended one after another, as the records of a file are.
 
-ghost use Rattle.std.specs.Prelude.{◌≡◌, ◌++◌, ◌-◌, OnOk, OnErr, replicate, take, length, vec_len};
+ghost use Rattle.std.specs.Prelude.{◌≡◌, ◌++◌, ◌-◌, OnOk, OnErr, replicate, take, length};
 ghost use Rattle.std.specs.Int.{next_multiple_of};
 ghost use Rattle.byte_core.specs.Number.{little_bytes};
 ghost use Rattle.byte_core.specs.Fields.{field_bytes};
@@ -79,7 +79,7 @@ pub fn push_zeros(out: &mut Vec<u8>, count: usize) -> Result<(), AllocError>
 
 /// Appends zero bytes up to the next multiple of `align`; none where `align` is 0.
 pub fn push_padding(out: &mut Vec<u8>, align: u64) -> Result<(), AllocError>
-    ensures ok { OnOk result (out.new.items ≡ out.old.items ++ replicate (next_multiple_of (vec_len out.old) align - vec_len out.old) 0) }
+    ensures ok { OnOk result (out.new.items ≡ out.old.items ++ replicate (next_multiple_of (length out.old.items) align - length out.old.items) 0) }
     ensures err { OnErr result (out.new.items ≡ out.old.items) }
 {
     if align == 0 {

@@ -55,6 +55,13 @@ impl LibcallNames {
         self.texts[place(call)].as_str()
     }
 
+    /// All texts, in the order of the calls.
+    pub fn texts(&self) -> &[String]
+        ensures { map string_bytes result.now ≡ self.now }
+    {
+        &self.texts
+    }
+
     /// An equal table.
     pub fn copy(&self) -> Result<LibcallNames, AllocError>
         ensures { IfOk result (λ names. names ≡ self.now) }

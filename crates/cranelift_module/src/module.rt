@@ -18,6 +18,9 @@ pub trait Module {
     /// All that the calls have left.
     ghost state: { Self → LinkState };
 
+    /// What no call changes is the same in both.
+    ghost Keeps: { Self → Self → Type 0 };
+
     /// The target that files are made for.
     fn isa(&self) -> &TargetIsa
         ensures { result.now ≡ (state self.now).target };
@@ -36,12 +39,14 @@ pub trait Module {
     ) -> ModuleResult<FuncId>
         requires { length (state self.old).functions < 4294967295 }
         ensures call { IsCall result (state self.old) (state self.new) (calls.declare_function name.now linkage signature.now) }
+        ensures keeps { Keeps self.old self.new }
         ensures id { IfOk result (λ id. position_from (is_function_named name.now) 0 (state self.new).functions ≡ Some id) };
 
     /// Declares a function without a name: the next number, Local.
     fn declare_anonymous_function(&mut self, signature: &Signature) -> ModuleResult<FuncId>
         requires { length (state self.old).functions < 4294967295 }
         ensures call { IsCall result (state self.old) (state self.new) (calls.declare_anonymous_function signature.now) }
+        ensures keeps { Keeps self.old self.new }
         ensures id { IfOk result (λ id. id ≡ length (state self.old).functions) };
 
     /// Defines a declared function by its bytes. The alignment is in bytes; relocations come with a
@@ -54,7 +59,8 @@ pub trait Module {
         relocs: &[ModuleReloc],
     ) -> ModuleResult<()>
         requires plain { (alignment ≡ 1) × (relocs.now ≡ []) }
-        ensures call { IsCall result (state self.old) (state self.new) (calls.define_function func_id alignment bytes.now relocs.now) };
+        ensures call { IsCall result (state self.old) (state self.new) (calls.define_function func_id alignment bytes.now relocs.now) }
+        ensures keeps { Keeps self.old self.new };
 
     /// What is declared under a name.
     fn get_name(&self, name: &str) -> Option<FuncOrDataId>
@@ -83,10 +89,20 @@ pub trait Module {
     {
         signature.clear(self.isa().default_call_conv());
     }
+
+    ghost keeps_same: { (m : Self) → Keeps m m };
+
+    ghost keeps_on: { (a b c : Self) → Keeps a b → Keeps b c → Keeps a c };
 }
 
 impl<M: Module> Module for &mut M {
     ghost state = { λ m. M.state m.now };
+
+    ghost Keeps = { λ a b. M.Keeps a.now b.now };
+
+    ghost keeps_same = { λ m. M.keeps_same m.now };
+
+    ghost keeps_on = { λ a b c. M.keeps_on a.now b.now c.now };
 
     fn isa(&self) -> &TargetIsa {
         (**self).isa()
@@ -122,6 +138,12 @@ impl<M: Module> Module for &mut M {
 
 impl<M: Module> Module for Box<M> {
     ghost state = { λ m. M.state m.value };
+
+    ghost Keeps = { λ a b. M.Keeps a.value b.value };
+
+    ghost keeps_same = { λ m. M.keeps_same m.value };
+
+    ghost keeps_on = { λ a b c. M.keeps_on a.value b.value c.value };
 
     fn isa(&self) -> &TargetIsa {
         (**self).isa()

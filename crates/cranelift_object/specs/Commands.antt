@@ -1,14 +1,7 @@
--- What contracts see of a command.
-use Rattle.std.specs.Prelude.{◌≡◌, ℕ, Bool, true, false, List, [], string_bytes}
+-- The calls that commands stand for.
+use Rattle.std.specs.Prelude.{◌≡◌, ℕ, Bool, true, false, List, []}
 use Rattle.cranelift_module.specs.Call.{Call, declare_function, declare_anonymous_function, define_function, declare_data, declare_anonymous_data, define_data}
-use Rattle.cranelift_object.specs.declared.command.Command.{Command}
-use Rattle.cranelift_object.specs.declared.command.Command.TheVariants.{DeclareFunction, DeclareAnonymousFunction, DefineFunction}
-
--- the call that a command makes
-abbrev pub command_view : Command → Call
-command_view (DeclareFunction name linkage signature) = declare_function (string_bytes name) linkage signature
-command_view (DeclareAnonymousFunction signature) = declare_anonymous_function signature
-command_view (DefineFunction id align bytes relocs) = define_function id align bytes.items relocs.items
+pub use Rattle.cranelift_object.specs.Command.{command_view}
 
 -- the call declares a function
 abbrev pub makes_function : Call → Bool

@@ -8,13 +8,15 @@ ghost use Rattle.cranelift_module.specs.Refusal.{Tells, refusal};
 ghost use Rattle.cranelift_object.specs.Commands.{command_view, makes_function, IsPlainCall};
 ghost use Rattle.cranelift_object.specs.Settings.{plain_settings};
 
-use cranelift_module::{FuncId, LibcallNames, Linkage, ModuleReloc};
+use cranelift_module::{
+    FuncId, LibcallNames, Linkage, Module, ModuleError, ModuleReloc, ModuleResult,
+};
 use ir_core::{Signature, TargetIsa};
 use std::alloc::{AllocError, Global};
 use std::marker::Model;
 
 /// A call of a module. Data and its definitions come with a later stage.
-#[derive(Drop)]
+#[derive(Debug, Drop)]
 pub enum Command {
     DeclareFunction {
         name: String,
@@ -151,5 +153,38 @@ impl CommandPart {
         ensures { self.new ≡ record self.old { calls = map command_view commands.items } }
     {
         self.commands = commands;
+    }
+}
+
+/// Makes the calls in order, up to the first that is refused, and answers the number of that one with its refusal.
+pub fn apply<M: Module>(module: &mut M, commands: &[Command]) -> Result<(), (usize, ModuleError)> {
+    for (number, command) in commands.iter().enumerate() {
+        if let Err(error) = make_call(module, command) {
+            return Err((number, error));
+        }
+    }
+    Ok(())
+}
+
+fn make_call<M: Module>(module: &mut M, command: &Command) -> ModuleResult<()> {
+    match command {
+        Command::DeclareFunction {
+            name,
+            linkage,
+            signature,
+        } => {
+            module.declare_function(name.as_str(), *linkage, signature)?;
+            Ok(())
+        }
+        Command::DeclareAnonymousFunction { signature } => {
+            module.declare_anonymous_function(signature)?;
+            Ok(())
+        }
+        Command::DefineFunction {
+            id,
+            align,
+            bytes,
+            relocs,
+        } => module.define_function_bytes(*id, *align, bytes, relocs),
     }
 }

@@ -9,9 +9,10 @@ use Rattle.std.specs.Int.{next_multiple_of, is_power_of_two}
 use Rattle.std.proofs.lemmas.List.Elements.{All-set, All-push, All-nil, All-get_or}
 use Rattle.std.proofs.lemmas.List.Sums.{sum_by-set, sum_by_push, get_or-le-sum_by}
 use Rattle.object_core.specs.declared.kinds.StandardSection.{StandardSection}
+use Rattle.object_core.specs.declared.kinds.SectionKind.{SectionKind}
 use Rattle.object_core.specs.declared.symbol.Symbol.{Symbol}
 use Rattle.object_core.specs.Object.{SectionData, ObjectData}
-use Rattle.object_core.specs.Standard.{is_zero_fill, is_same_shared, standard_place, empty_standard}
+use Rattle.object_core.specs.Standard.{is_zero_fill, is_same_shared, standard_place, empty_section, empty_standard}
 use Rattle.object_core.specs.Appending.{changed_at, standard_at, with_contents, offset_in, next_offset, defined_symbol, with_symbol_data, IsSection, AreSections}
 
 -- a place at which a list has a value lies in it
@@ -73,10 +74,10 @@ no_bytes : (zero_fill : Bool) (n : ℕ) → n ≡ 0 → n ≡ cond zero_fill 0 n
 no_bytes true n h = h
 no_bytes false n h = refl
 
-pub one_more : (sections longer : List SectionData) (sum : ℕ) (standard : StandardSection) → AreSections sections sum → longer ≡ sections ++ empty_standard standard ∷ [] → AreSections longer sum
-one_more sections longer sum standard h e =
-    let new : SectionData = empty_standard standard in
-    let one : IsSection new = record { contents = no_bytes (is_zero_fill new.kind) new.size refl; align = omega arith; power = one_power } in
+pub one_more : (sections longer : List SectionData) (sum : ℕ) (name : List ℕ) (kind : SectionKind) (shared : Option StandardSection) → AreSections sections sum → longer ≡ sections ++ empty_section [] name kind 0 shared ∷ [] → AreSections longer sum
+one_more sections longer sum name kind shared h e =
+    let new : SectionData = empty_section [] name kind 0 shared in
+    let one : IsSection new = record { contents = no_bytes (is_zero_fill kind) new.size refl; align = omega arith; power = one_power } in
     let all : AreSections (sections ++ new ∷ []) sum = record {
       each = All-push IsSection sections new h.each one;
       sizes = omega (arith, sum_by_push (λ (s : SectionData). s.size) sections new, h.sizes);

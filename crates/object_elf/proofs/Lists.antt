@@ -1,7 +1,9 @@
 -- Elements of lists by their places.
-use Rattle.std.proofs.Common.{◌≡◌, ℕ, zero, suc, ◌+◌, ◌-◌, ◌<◌, ◌≤◌, List, [], ◌∷◌, ◌++◌, length, take, map, refl, ap, sym, ◌∙◌, arith, Option, Some, None, Bool, true, false, slice_get, ◌⊎◌, inl, inr, cond, add_assoc}
+use Rattle.std.proofs.Common.{◌≡◌, ℕ, zero, suc, ◌+◌, ◌-◌, ◌<◌, ◌≤◌, List, [], ◌∷◌, ◌++◌, length, take, map, refl, ap, sym, ◌∙◌, arith, Option, Some, None, Bool, true, false, slice_get, ◌⊎◌, inl, inr, cond, get_or, drop, subst, append_assoc, append-nil}
 use Rattle.std.specs.Prelude.{filter, count_by, sum_by, flat_map}
 use Rattle.std.proofs.lemmas.List.Sums.{sum_by-cons}
+use Rattle.std.proofs.lemmas.List.{drop_more, take_more, drop_all}
+use Rattle.std.proofs.lemmas.Option.{slice_get_read}
 
 pub get_left : {X : Type 0} (xs ys : List X) (k : ℕ) (x : X) → slice_get xs k ≡ Some x → slice_get (xs ++ ys) k ≡ Some x
 get_left [] ys zero x e = absurd (cc)
@@ -62,3 +64,37 @@ get_filter p [] zero x e t = absurd (cc)
 get_filter p [] (suc k) x e t = absurd (cc)
 get_filter p (y ∷ xs) zero x e t = let same : y ≡ x = cc in rw (same, t) refl
 get_filter p (y ∷ xs) (suc k) x e t = rw (sum_by-cons (λ z. cond (p z) 1 0) y (take k xs)) (get_filter_past p y xs k x (p y) (get_filter p xs k x e t))
+
+-- ---- a loop over a list
+
+-- the item of a loop is the next element
+pub item_get : {X : Type 0} (xs : List X) (i : ℕ) (x : X) → i < length xs → x ≡ get_or xs i x → slice_get xs i ≡ Some x
+item_get xs i x h e = slice_get_read xs (length xs) i x refl h e
+
+pub item_drop : {X : Type 0} (xs : List X) (i : ℕ) (x : X) → i < length xs → x ≡ get_or xs i x → drop i xs ≡ x ∷ drop (i + 1) xs
+item_drop xs i x h e = drop_more xs i x h ∙ ap (λ y. y ∷ drop (i + 1) xs) (sym e)
+
+pub item_take : {X : Type 0} (xs : List X) (i : ℕ) (x : X) → i < length xs → x ≡ get_or xs i x → take (i + 1) xs ≡ take i xs ++ x ∷ []
+item_take xs i x h e = take_more xs i x h ∙ ap (λ y. take i xs ++ y ∷ []) (sym e)
+
+below_or_here : (k i : ℕ) → k < i + 1 → (k < i) ⊎ (i ≡ k)
+below_or_here k i h = grind (arith)
+
+each_here_or_before : {X : Type 0} (P : X → Type 0) (xs : List X) (i : ℕ) (x : X) → slice_get xs i ≡ Some x → ((k : ℕ) (y : X) → k < i → slice_get xs k ≡ Some y → P y) → P x → (k : ℕ) (y : X) → (k < i) ⊎ (i ≡ k) → slice_get xs k ≡ Some y → P y
+each_here_or_before P xs i x e before here k y (inl h) g = before k y h g
+each_here_or_before P xs i x e before here k y (inr same) g = let one : x ≡ y = cc in subst P one here
+
+-- what holds of each element before the item, and of the item, holds of each up to it
+pub each_more : {X : Type 0} (P : X → Type 0) (xs : List X) (i : ℕ) (x : X) → i < length xs → x ≡ get_or xs i x → ((k : ℕ) (y : X) → k < i → slice_get xs k ≡ Some y → P y) → P x → (k : ℕ) (y : X) → k < i + 1 → slice_get xs k ≡ Some y → P y
+each_more P xs i x h e before here k y l g = each_here_or_before P xs i x (item_get xs i x h e) before here k y (below_or_here k i l) g
+
+-- what holds of each element before the end holds of each
+pub each_all : {X : Type 0} (P : X → Type 0) (xs : List X) (i : ℕ) → length xs ≤ i → ((k : ℕ) (y : X) → k < i → slice_get xs k ≡ Some y → P y) → (k : ℕ) (y : X) → slice_get xs k ≡ Some y → P y
+each_all P xs i h before k y g = before k y (omega (arith, get_within xs k y g)) g
+
+-- the bytes of the item are written, then those that are left
+pub flat_more : {X : Type 0} (f : X → List ℕ) (x : X) (left rest : List X) (out new all : List ℕ) → left ≡ x ∷ rest → new ≡ out ++ f x → out ++ flat_map f left ≡ all → new ++ flat_map f rest ≡ all
+flat_more f x left rest out new all e n a = rw (n, append_assoc) (rw e at a)
+
+pub flat_all : {X : Type 0} (f : X → List ℕ) (xs : List X) (i : ℕ) (out all : List ℕ) → length xs ≤ i → out ++ flat_map f (drop i xs) ≡ all → out ≡ all
+flat_all f xs i out all h a = sym (append-nil out) ∙ ap (λ left. out ++ flat_map f left) (sym (drop_all i xs h)) ∙ a

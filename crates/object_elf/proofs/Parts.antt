@@ -7,7 +7,7 @@ use Rattle.std.proofs.lemmas.List.Sums.{sum_by-cons}
 use Rattle.byte_core.specs.LaidOut.{Aligned, end_behind, end_of_aligned, laid_out}
 use Rattle.byte_core.proofs.Standing.{length-rows}
 use Rattle.object_core.specs.LinkTable.{ElfTable, ElfTableSection, ElfTableSymbol, ElfRelocation}
-use Rattle.object_elf.specs.Layout.{Part, is_relocated, string_bytes_of, strings_size, section_names, symbol_names, content_part, note_part, relocation_part, symbol_part, string_part, parts_of, is_stored, start_after, end_after, end_of_parts, start_of}
+use Rattle.object_elf.specs.Layout.{Part, is_relocated, with_zero, string_bytes_of, strings_size, section_names, symbol_names, content_part, note_part, relocation_part, symbol_part, string_part, parts_of, is_stored, start_after, end_after, end_of_parts, start_of}
 use Rattle.object_elf.specs.ElfHolds.{null_symbol, record_for}
 use Rattle.object_elf.specs.File.{section_contents, relocation_contents, relocation_row_bytes, symbol_row_bytes, symbol_rows_from, symbol_contents, string_contents, contents_of}
 use Rattle.object_elf.specs.Fitting.{FitsElf, FitsSection, HasContents}
@@ -117,9 +117,6 @@ fit_symbols : (t : ElfTable) → FitsPart (symbol_part t) (symbol_contents t.sym
 fit_symbols t =
     fit_stored (symbol_part t) (symbol_contents t.symbols) refl refl
     (omega (arith, length-rows symbol_row_bytes 24 length-symbol_row_bytes (null_symbol ∷ symbol_rows_from 1 t.symbols), length-symbol_rows_from 1 t.symbols))
-
-abbrev pub with_zero : List ℕ → List ℕ
-with_zero name = name ++ 0 ∷ []
 
 pub length-with_zeros : (names : List (List ℕ)) → length (flat_map with_zero names) ≡ sum_by (λ name. length name + 1) names
 length-with_zeros [] = refl

@@ -5,10 +5,10 @@ use Rattle.std.specs.List.{list_any, enumerate_from}
 use Rattle.byte_core.specs.Number.{text_at}
 use Rattle.byte_core.proofs.Standing.{StandsAt, stands_whole, stands_behind, stands_within, stands_inside, text_stands, row_stands_behind}
 use Rattle.object_core.specs.LinkTable.{ElfTable, ElfTableSection}
-use Rattle.object_elf.specs.Layout.{Part, string_bytes_of, strings_size, name_place, relocation_name, relocation_part, section_names, parts_of}
+use Rattle.object_elf.specs.Layout.{Part, with_zero, string_bytes_of, strings_size, name_place, relocation_name, relocation_part, section_names, parts_of}
 use Rattle.object_elf.specs.Fitting.{FitsElf, FitsSection, IsText}
 use Rattle.object_elf.proofs.Lists.{get_map}
-use Rattle.object_elf.proofs.Parts.{with_zero, length-with_zeros, length-string_bytes_of}
+use Rattle.object_elf.proofs.Parts.{length-with_zeros, length-string_bytes_of}
 use Rattle.object_elf.proofs.PartCases.{part_name, names_of_parts, PartCase, part_case, Relocates}
 use Rattle.object_elf.proofs.PartCases.PartCase.{is_content, is_note, is_relocations, is_symbols, is_symbol_strings, is_section_strings}
 

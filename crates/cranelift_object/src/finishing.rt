@@ -1,0 +1,146 @@
+//! From a module to its object.
+
+ghost use Rattle.std.specs.Prelude.{◌≡◌, None, IfOk, IfErr, OnOk};
+ghost use Rattle.cranelift_module.specs.Refusal.{Tells};
+ghost use Rattle.cranelift_object.specs.EndCause.{end_cause};
+ghost use Rattle.cranelift_object.specs.Linked.{object_of, turns_compression_off};
+
+use crate::{ObjectModule, ObjectProduct};
+use cranelift_module::{
+    FuncId, FuncOrDataId, FunctionDeclaration, Linkage, Module, ModuleError, ModuleResult,
+};
+use ir_core::{Architecture, Flag, TargetIsa};
+use object_core::{
+    Object, SectionId, StandardSection, Symbol, SymbolId, SymbolKind, SymbolName, SymbolScope,
+    SymbolSection,
+};
+use std::alloc::{AllocError, Global};
+
+impl ObjectModule {
+    /// Makes the object of all that was declared and defined. A function that wants a definition and has none is
+    /// refused; the module is given up.
+    pub fn finish(self) -> ModuleResult<ObjectProduct> {
+        self.check_finished()?;
+        let mut object = self.begun_object()?;
+        let functions = self.add_symbols(&mut object)?;
+        self.add_definitions(&mut object, &functions)?;
+        Ok(ObjectProduct::new(self.builder.alloc(), object, functions))
+    }
+
+    // Refuses the first function that wants a definition and has none.
+    fn check_finished(&self) -> ModuleResult<()> {
+        for number in 0..self.defined.len() {
+            let id = FuncId::from_u32(number as u32);
+            let function = self.declarations.get_function_decl(id);
+            if function.linkage().requires_definition() && !self.defined[number] {
+                let name = function.linkage_name(self.builder.alloc(), id)?;
+                let name = name.into_owned(self.builder.alloc())?;
+                return Err(ModuleError::MissingDefinition(name));
+            }
+        }
+        Ok(())
+    }
+
+    // The object with the symbol of the file's name alone.
+    fn begun_object(&self) -> Result<Object, AllocError> {
+        let isa = self.builder.isa();
+        let triple = isa.triple();
+        let mut object = Object::new(
+            self.builder.alloc(),
+            triple.binary_format,
+            triple.architecture,
+            file_flags(isa),
+        );
+        object.add_file_symbol(self.builder.name())?;
+        Ok(object)
+    }
+
+    // Adds an undefined symbol for each identifier in order of creation. The answer is the symbol of each function by
+    // number, with whether it is defined.
+    fn add_symbols(&self, object: &mut Object) -> Result<Vec<(SymbolId, bool)>, AllocError> {
+        let alloc = self.builder.alloc();
+        let mut functions = Vec::new(alloc);
+        for id in &self.created {
+            if let FuncOrDataId::Func(id) = id {
+                let function = self.declarations.get_function_decl(*id);
+                let symbol = object.add_symbol(function_symbol(alloc, function, *id)?)?;
+                functions.push((symbol, self.is_defined(*id)))?;
+            }
+        }
+        Ok(functions)
+    }
+
+    // Adds the contents of each definition, and defines its symbol there.
+    fn add_definitions(
+        &self,
+        object: &mut Object,
+        functions: &[(SymbolId, bool)],
+    ) -> Result<(), AllocError> {
+        let align = self.builder.isa().symbol_alignment();
+        for definition in &self.definitions {
+            let section = self.section_of(object)?;
+            let (symbol, _) = functions[definition.function().as_u32() as usize];
+            object.add_symbol_data(symbol, section, definition.contents(), align)?;
+        }
+        Ok(())
+    }
+
+    // The section of a function: one of its own, or the standard one.
+    fn section_of(&self, object: &mut Object) -> Result<SectionId, AllocError> {
+        if self.builder.function_sections() {
+            object.add_subsection(StandardSection::Text)
+        } else {
+            object.section_id(StandardSection::Text)
+        }
+    }
+}
+
+// The symbol of a function before it is defined.
+fn function_symbol(
+    alloc: Global,
+    function: &FunctionDeclaration,
+    id: FuncId,
+) -> Result<Symbol, AllocError> {
+    let name = function.linkage_name(alloc, id)?;
+    let name = SymbolName::from_slice(alloc, name.as_str().as_bytes())?;
+    Ok(Symbol {
+        name,
+        value: 0,
+        size: 0,
+        kind: SymbolKind::Text,
+        scope: scope_of(function.linkage()),
+        weak: matches!(function.linkage(), Linkage::Preemptible),
+        section: SymbolSection::Undefined,
+        no_dead_strip: false,
+    })
+}
+
+fn scope_of(linkage: Linkage) -> SymbolScope {
+    match linkage {
+        Linkage::Import => SymbolScope::Unknown,
+        Linkage::Local => SymbolScope::Compilation,
+        Linkage::Hidden => SymbolScope::Linkage,
+        Linkage::Preemptible | Linkage::Export => SymbolScope::Dynamic,
+    }
+}
+
+// The flags of the file: on RISC-V EF_RISCV_FLOAT_ABI_DOUBLE, and EF_RISCV_RVC unless a flag turns compression off.
+fn file_flags(isa: &TargetIsa) -> u32 {
+    match isa.triple().architecture {
+        Architecture::Riscv64 => {
+            if isa.flags().iter().any(turns_compression_off) {
+                4
+            } else {
+                5
+            }
+        }
+        _ => 0,
+    }
+}
+
+// A flag for compressed instructions that is listed without the value true.
+fn turns_compression_off(flag: &Flag) -> bool
+    ensures { result ≡ turns_compression_off flag.now }
+{
+    (flag.name() == "has_zca" || flag.name() == "has_zcd") && flag.value() != Some(true)
+}

@@ -1,0 +1,76 @@
+//! What a finished module gives.
+
+ghost use Rattle.std.specs.Prelude.{◌≡◌, ◌<◌, ℕ, Bool, [], Some, length, map, slice_get, option_map};
+
+use cranelift_module::{DataId, FuncId};
+use object_core::{Object, SymbolId};
+use std::alloc::Global;
+use std::marker::Model;
+
+/// The object of a finished module, with the symbols of its functions and data objects.
+#[derive(Drop)]
+pub struct ObjectProduct {
+    object: Object,
+    functions: Vec<(SymbolId, bool)>,
+    data_objects: Vec<(SymbolId, bool)>,
+}
+
+impl Model for ObjectProduct {
+    ghost use Rattle.cranelift_object.specs.Opened.{ProductData};
+
+    ghost Value = { ProductData };
+
+    ghost view = { λ p. record { object = p.object; functions = p.functions.items; data_objects = p.data_objects.items } };
+}
+
+impl ObjectProduct {
+    pub(crate) fn new(
+        alloc: Global,
+        object: Object,
+        functions: Vec<(SymbolId, bool)>,
+    ) -> ObjectProduct
+        ensures { result ≡ record { object = object; functions = functions.items; data_objects = [] } }
+    {
+        ObjectProduct {
+            object,
+            functions,
+            data_objects: Vec::new(alloc),
+        }
+    }
+
+    pub fn object(&self) -> &Object
+        ensures { result.now ≡ (self.now).object }
+    {
+        &self.object
+    }
+
+    /// For each function by number its symbol, and whether it is defined.
+    pub fn functions(&self) -> &[(SymbolId, bool)]
+        ensures { result.now ≡ (self.now).functions }
+    {
+        &self.functions
+    }
+
+    /// For each data object by number its symbol, and whether it is defined.
+    pub fn data_objects(&self) -> &[(SymbolId, bool)]
+        ensures { result.now ≡ (self.now).data_objects }
+    {
+        &self.data_objects
+    }
+
+    /// The symbol of a declared function.
+    pub fn function_symbol(&self, id: FuncId) -> SymbolId
+        requires { id < length (self.now).functions }
+        ensures { option_map (λ (row : ℕ × Bool). row.0) (slice_get (self.now).functions id) ≡ Some result }
+    {
+        self.functions[id.as_u32() as usize].0
+    }
+
+    /// The symbol of a declared data object.
+    pub fn data_symbol(&self, id: DataId) -> SymbolId
+        requires { id < length (self.now).data_objects }
+        ensures { option_map (λ (row : ℕ × Bool). row.0) (slice_get (self.now).data_objects id) ≡ Some result }
+    {
+        self.data_objects[id.as_u32() as usize].0
+    }
+}
