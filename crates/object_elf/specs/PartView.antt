@@ -27,3 +27,6 @@ relocation_parts_from link row sections = map (relocation_part_of link) (filter 
 -- how many bytes a part's name takes, with its zero byte
 abbrev pub part_name_size : Part → ℕ
 part_name_size p = length p.name + 1
+
+abbrev pub part_name : Part → List ℕ
+part_name p = p.name
