@@ -7,7 +7,7 @@ use Rattle.object_core.specs.declared.relocation.Relocation.{Relocation}
 use Rattle.object_core.specs.Object.{SectionData, is_local, is_global, is_in_section}
 use Rattle.object_core.specs.ElfRows.{elf_shndx, elf_symbol, elf_section, elf_relocation, elf_type_of, row_in}
 use Rattle.object_core.specs.LinkTable.{ElfTableSymbol, ElfTableSection}
-use Rattle.image_read.specs.ElfFile.{ElfRelocationRow}
+use Rattle.image_read.specs.ElfFile.{ElfHeader, ElfRelocationRow}
 use Rattle.object_elf.specs.Layout.{is_relocated, with_zero}
 use Rattle.object_elf.specs.ElfHolds.{record_for}
 use Rattle.object_elf.specs.File.{section_contents, relocation_contents, relocation_row_bytes}
@@ -93,3 +93,25 @@ records_at rows s = record { align = 8; bytes = record_bytes_by rows s.relocatio
 -- the bytes of the names of the local symbols, or of the others
 abbrev pub chosen_names : Bool → List Symbol → List ℕ
 chosen_names local symbols = flat_map with_zero (map (λ s. s.name) (chosen local symbols))
+
+-- -- the header
+
+-- the header of a file with this machine, these flags, section headers at this place and so many sections
+abbrev pub header_with : ℕ → ℕ → ℕ → ℕ → ElfHeader
+header_with machine flags start count =
+    record {
+      ident = 0x7f ∷ 0x45 ∷ 0x4c ∷ 0x46 ∷ 2 ∷ 1 ∷ 1 ∷ 0 ∷ 0 ∷ 0 ∷ 0 ∷ 0 ∷ 0 ∷ 0 ∷ 0 ∷ 0 ∷ [];
+      e_type = 1;
+      machine = machine;
+      version = 1;
+      entry = 0;
+      phoff = 0;
+      shoff = start;
+      flags = flags;
+      ehsize = 64;
+      phentsize = 0;
+      phnum = 0;
+      shentsize = 64;
+      shnum = count + 1;
+      shstrndx = count;
+    }

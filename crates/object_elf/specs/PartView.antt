@@ -1,0 +1,32 @@
+-- What a contract sees of the parts that the writer lists.
+use Rattle.std.specs.Prelude.{ℕ, ◌+◌, ◌*◌, ◌==◌, Bool, not, List, ◌++◌, length, map, filter, codes}
+use Rattle.std.specs.List.{enumerate_from}
+use Rattle.object_core.specs.Object.{SectionData}
+use Rattle.object_elf.specs.declared.layout.PartHeader.{PartHeader}
+use Rattle.object_elf.specs.Layout.{Part, content_part}
+use Rattle.object_elf.specs.Writing.{plain_section, has_relocations}
+
+abbrev pub part_view : PartHeader → Part
+part_view p = record { name = p.prefix.now ++ p.name.now; sh_type = p.sh_type; flags = p.flags; size = p.size; link = p.link; info = p.info; align = p.align; entsize = p.entsize }
+
+-- the part of a section
+abbrev pub content_part_of : SectionData → Part
+content_part_of s = content_part (plain_section s)
+
+-- the part of the relocations of a section with this header row, over the symbol table in this row
+abbrev pub relocation_part_of : ℕ → ℕ × SectionData → Part
+relocation_part_of link s = record { name = codes ".rela" ++ s.1.name; sh_type = 4; flags = 0x40; size = 24 * length s.1.relocations; link = link; info = s.0; align = 8; entsize = 24 }
+
+abbrev pub has_records : ℕ × SectionData → Bool
+has_records s = has_relocations s.1
+
+-- the parts of the relocations of sections whose header rows begin here
+abbrev pub relocation_parts_from : ℕ → ℕ → List SectionData → List Part
+relocation_parts_from link row sections = map (relocation_part_of link) (filter has_records (enumerate_from row sections))
+
+-- how many bytes a part's name takes, with its zero byte
+abbrev pub part_name_size : Part → ℕ
+part_name_size p = length p.name + 1
+
+abbrev pub part_name : Part → List ℕ
+part_name p = p.name
