@@ -26,6 +26,10 @@ option_or_none : {A : Type 0} (o : Option A) → option_or o None ≡ o
 option_or_none None = refl
 option_or_none (Some x) = refl
 
+-- where the first cause doesn't hold, the second is the first
+pub option_or_first : {A : Type 0} (a b : Option A) → a ≡ None → option_or a b ≡ b
+option_or_first a b h = rw h refl
+
 first_none : {A : Type 0} (a b : Option A) → option_or a b ≡ None → (a ≡ None) × (b ≡ None)
 first_none None b h = (refl, h)
 first_none (Some x) b h = absurd (cc)

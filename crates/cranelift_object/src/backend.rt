@@ -1,6 +1,7 @@
 //! The module that makes an object file.
 
-ghost use Rattle.std.specs.Prelude.{◌≡◌, ◌≢◌, ◌<◌, ◌++◌, ◌∷◌, ℕ, [], false, vec_len, vec_capacity, None, Some, length, IfOk, IfErr, OnOk, OnErr};
+ghost use Rattle.std.specs.Prelude.{◌≡◌, ◌≢◌, refl, ◌<◌, ◌++◌, ◌∷◌, ℕ, [], false, vec_len, vec_capacity, None, Some, length, IfOk, IfErr, OnOk, OnErr};
+ghost use Rattle.std.proofs.Common.{◌∙◌};
 ghost use Rattle.std.specs.List.{position_from};
 ghost use Rattle.cranelift_module.specs.LinkState.{LinkState, state_of, is_function_named};
 ghost use Rattle.cranelift_module.specs.IsCall.{IsCall};
@@ -69,6 +70,12 @@ impl ObjectModule {
 
 impl Module for ObjectModule {
     ghost state = { λ m. m.state };
+
+    ghost Keeps = { λ a b. b.settings ≡ a.settings };
+
+    ghost keeps_same = { λ m. refl };
+
+    ghost keeps_on = { λ a b c h k. k ∙ h };
 
     fn isa(&self) -> &TargetIsa {
         self.builder.isa()

@@ -1,11 +1,11 @@
 //! The calls of a module as values.
 
-ghost use Rattle.std.specs.Prelude.{◌≡◌, ◌<◌, ◌+◌, ℕ, [], Some, None, length, map, count_by, take, IfOk, IfErr, OnOk, OnErr, slice_get};
+ghost use Rattle.std.specs.Prelude.{◌≡◌, ◌<◌, ◌+◌, ℕ, [], IsTrue, Some, None, length, map, count_by, take, IfOk, IfErr, OnOk, OnErr, slice_get};
 ghost use Rattle.std.specs.List.{All};
 ghost use Rattle.cranelift_module.specs.LinkState.{LinkState, steps, state_of};
 ghost use Rattle.cranelift_module.specs.IsCall.{IsCall};
 ghost use Rattle.cranelift_module.specs.Refusal.{Tells, refusal};
-ghost use Rattle.cranelift_object.specs.Commands.{command_view, makes_function, IsPlainCall};
+ghost use Rattle.cranelift_object.specs.Commands.{command_view, makes_function, IsPlainCall, first_refusal, TellsAt};
 ghost use Rattle.cranelift_object.specs.Settings.{plain_settings};
 
 use cranelift_module::{
@@ -156,28 +156,42 @@ impl CommandPart {
     }
 }
 
-/// Makes the calls in order, up to the first that is refused, and answers the number of that one with its refusal.
-pub fn apply<M: Module>(module: &mut M, commands: &[Command]) -> Result<(), (usize, ModuleError)> {
+/// Makes the calls in order, up to the first that is refused, and answers the number of that one with its refusal. The
+/// functions that are declared and those that the commands declare are together fewer than 4,294,967,295.
+pub fn apply<M: Module>(backend: &mut M, commands: &[Command]) -> Result<(), (usize, ModuleError)>
+    requires room { length (M.state backend.old).functions + count_by makes_function (map command_view commands.now) < 4294967295 }
+    requires plain { All IsPlainCall (map command_view commands.now) }
+    ensures ok { OnOk result (M.state backend.new ≡ steps (M.state backend.old) (map command_view commands.now)) }
+    ensures none { OnOk result (first_refusal (M.state backend.old) 0 (map command_view commands.now) ≡ None) }
+    ensures refused { IfErr result (λ e. TellsAt e.0 e.1 (first_refusal (M.state backend.old) 0 (map command_view commands.now))) }
+    ensures begun { IfErr result (λ e. M.state backend.new ≡ steps (M.state backend.old) (take e.0 (map command_view commands.now))) }
+    ensures keeps { M.Keeps backend.old backend.new }
+{
     for (number, command) in commands.iter().enumerate() {
-        if let Err(error) = make_call(module, command) {
+        if let Err(error) = make_call(backend, command) {
             return Err((number, error));
         }
     }
     Ok(())
 }
 
-fn make_call<M: Module>(module: &mut M, command: &Command) -> ModuleResult<()> {
+fn make_call<M: Module>(backend: &mut M, command: &Command) -> ModuleResult<()>
+    requires room { IsTrue (makes_function (command_view command.now)) → length (M.state backend.old).functions < 4294967295 }
+    requires plain { IsPlainCall (command_view command.now) }
+    ensures call { IsCall result (M.state backend.old) (M.state backend.new) (command_view command.now) }
+    ensures keeps { M.Keeps backend.old backend.new }
+{
     match command {
         Command::DeclareFunction {
             name,
             linkage,
             signature,
         } => {
-            module.declare_function(name.as_str(), *linkage, signature)?;
+            backend.declare_function(name.as_str(), *linkage, signature)?;
             Ok(())
         }
         Command::DeclareAnonymousFunction { signature } => {
-            module.declare_anonymous_function(signature)?;
+            backend.declare_anonymous_function(signature)?;
             Ok(())
         }
         Command::DefineFunction {
@@ -185,6 +199,6 @@ fn make_call<M: Module>(module: &mut M, command: &Command) -> ModuleResult<()> {
             align,
             bytes,
             relocs,
-        } => module.define_function_bytes(*id, *align, bytes, relocs),
+        } => backend.define_function_bytes(*id, *align, bytes, relocs),
     }
 }

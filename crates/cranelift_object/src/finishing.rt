@@ -1,8 +1,8 @@
 //! From a module to its object.
 
-ghost use Rattle.std.specs.Prelude.{◌≡◌, None, IfOk, IfErr, OnOk};
+ghost use Rattle.std.specs.Prelude.{◌≡◌, ◌<◌, length, None, IfOk, IfErr, OnOk};
 ghost use Rattle.cranelift_module.specs.Refusal.{Tells};
-ghost use Rattle.cranelift_object.specs.EndCause.{end_cause};
+ghost use Rattle.cranelift_object.specs.EndCause.{end_cause, function_missing};
 ghost use Rattle.cranelift_object.specs.Linked.{object_of, turns_compression_off};
 
 use crate::{ObjectModule, ObjectProduct};
@@ -28,17 +28,31 @@ impl ObjectModule {
     }
 
     // Refuses the first function that wants a definition and has none.
-    fn check_finished(&self) -> ModuleResult<()> {
+    fn check_finished(&self) -> ModuleResult<()>
+        ensures none { OnOk result (end_cause (self.now).state ≡ None) }
+        ensures cause { IfErr result (λ e. Tells e (end_cause (self.now).state)) }
+    {
         for number in 0..self.defined.len() {
-            let id = FuncId::from_u32(number as u32);
-            let function = self.declarations.get_function_decl(id);
-            if function.linkage().requires_definition() && !self.defined[number] {
-                let name = function.linkage_name(self.builder.alloc(), id)?;
-                let name = name.into_owned(self.builder.alloc())?;
-                return Err(ModuleError::MissingDefinition(name));
+            if let Err(error) = self.check_function(FuncId::from_u32(number as u32)) {
+                return Err(error);
             }
         }
         Ok(())
+    }
+
+    // Refuses a function that wants a definition and has none.
+    fn check_function(&self, id: FuncId) -> ModuleResult<()>
+        requires { id < length (self.now).state.functions }
+        ensures none { OnOk result (function_missing (self.now).state id ≡ None) }
+        ensures cause { IfErr result (λ e. Tells e (function_missing (self.now).state id)) }
+    {
+        let function = self.declarations.get_function_decl(id);
+        if !function.linkage().requires_definition() || self.is_defined(id) {
+            return Ok(());
+        }
+        let alloc = self.builder.alloc();
+        let name = function.linkage_name(alloc, id)?.into_owned(alloc)?;
+        Err(ModuleError::MissingDefinition(name))
     }
 
     // The object with the symbol of the file's name alone.
