@@ -54,7 +54,8 @@ fn too_many_sections(rows: u128) -> EmitError
     }
 }
 
-fn relocated_count(sections: &[Section]) -> usize
+/// How many sections have relocations.
+pub(crate) fn relocated_count(sections: &[Section]) -> usize
     ensures { result ≡ count_by has_relocations sections.now }
 {
     sections.iter().filter(|section| has_relocations(section)).count()
