@@ -85,9 +85,9 @@ section_names_are ss (x ∷ xs) =
     let later = map relocation_name rest in
     let first : names_size (x.name ∷ map content_name (map (elf_section ss) xs)) ≡ length x.name + 1 + names_size (map content_name (map (elf_section ss) xs)) = sum_by-cons name_size x.name (map content_name (map (elf_section ss) xs)) in
     let second : names_size (map relocation_name (cond (is_relocated (elf_section ss x)) (elf_section ss x ∷ rest) rest)) ≡ cond (has_relocations x) (length x.name + 6) 0 + names_size later =
-        ap names_size (map_cond relocation_name (elf_section ss x) rest (is_relocated (elf_section ss x)))
-        ∙ ap (λ b. names_size (cond b (relocation_name (elf_section ss x) ∷ later) later)) (relocated_is ss x)
-        ∙ names_past x (relocation_name (elf_section ss x)) later (has_relocations x) refl in
+    ap names_size (map_cond relocation_name (elf_section ss x) rest (is_relocated (elf_section ss x)))
+    ∙ ap (λ b. names_size (cond b (relocation_name (elf_section ss x) ∷ later) later)) (relocated_is ss x)
+    ∙ names_past x (relocation_name (elf_section ss x)) later (has_relocations x) refl in
     omega (arith, first, second, section_names_are ss xs, sum_by-cons section_name_size x xs, size_cond x (has_relocations x))
 
 pub section_names_size_is : (o : ObjectData) → strings_size (section_names (elf_table_of o)) ≡ 43 + sum_by section_name_size o.sections
@@ -123,7 +123,7 @@ pub symbol_names_size_is : (o : ObjectData) → strings_size (symbol_names (elf_
 unfolding elf_table_of
 symbol_names_size_is o =
     let split : row_names (filter is_local o.symbols ++ filter is_global o.symbols) ≡ row_names (filter is_local o.symbols) ++ row_names (filter is_global o.symbols) =
-        ap (map symbol_name) (map-append elf_symbol (filter is_local o.symbols) (filter is_global o.symbols)) ∙ map-append symbol_name (map elf_symbol (filter is_local o.symbols)) (map elf_symbol (filter is_global o.symbols)) in
+    ap (map symbol_name) (map-append elf_symbol (filter is_local o.symbols) (filter is_global o.symbols)) ∙ map-append symbol_name (map elf_symbol (filter is_local o.symbols)) (map elf_symbol (filter is_global o.symbols)) in
     omega (arith, ap names_size split, sum_by-append name_size (row_names (filter is_local o.symbols)) (row_names (filter is_global o.symbols)), both_names o.symbols)
 
 -- ---- counts
@@ -154,7 +154,7 @@ counts_are o =
     let sections : length (parts_of (elf_table_of o)) + 1 ≡ length o.sections + count_by has_relocations o.sections + 5 = omega (arith, length-parts_of (elf_table_of o), front_count_is o) in
     let symbols : length (elf_table_of o).symbols + 1 ≡ length o.symbols + 1 = ap (λ n. n + 1) (symbol_count_is o) in
     let names : strings_size (symbol_names (elf_table_of o)) + strings_size (section_names (elf_table_of o)) ≡ 1 + sum_by symbol_name_size o.symbols + (43 + sum_by section_name_size o.sections) =
-        omega (arith, symbol_names_size_is o, section_names_size_is o) in
+    omega (arith, symbol_names_size_is o, section_names_size_is o) in
     rw (sections, symbols, names) refl
 
 -- ---- parts
