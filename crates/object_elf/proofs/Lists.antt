@@ -98,3 +98,10 @@ flat_more f x left rest out new all e n a = rw (n, append_assoc) (rw e at a)
 
 pub flat_all : {X : Type 0} (f : X → List ℕ) (xs : List X) (i : ℕ) (out all : List ℕ) → length xs ≤ i → out ++ flat_map f (drop i xs) ≡ all → out ≡ all
 flat_all f xs i out all h a = sym (append-nil out) ∙ ap (λ left. out ++ flat_map f left) (sym (drop_all i xs h)) ∙ a
+
+-- no element counts for more than all
+pub one_of_sum : {X : Type 0} (f : X → ℕ) (xs : List X) (k : ℕ) (x : X) → slice_get xs k ≡ Some x → f x ≤ sum_by f xs
+one_of_sum f [] zero x e = absurd (cc)
+one_of_sum f [] (suc k) x e = absurd (cc)
+one_of_sum f (y ∷ xs) zero x e = let same : y ≡ x = cc in rw (← same) (omega (arith, sum_by-cons f y xs))
+one_of_sum f (y ∷ xs) (suc k) x e = omega (arith, sum_by-cons f y xs, one_of_sum f xs k x e)

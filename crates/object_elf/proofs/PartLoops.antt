@@ -3,7 +3,7 @@ use Rattle.std.proofs.Common.{◌≡◌, ℕ, ◌+◌, ◌-◌, ◌<◌, ◌≤�
 use Rattle.std.specs.Prelude.{fold, flat_map, sum_by, MatchOption, IsSome}
 use Rattle.std.specs.Int.{next_multiple_of}
 use Rattle.std.proofs.lemmas.List.Sums.{sum_by-cons}
-use Rattle.std.proofs.lemmas.List.{drop_all, drop_more}
+use Rattle.std.proofs.lemmas.List.{drop_all, drop_more, map-append}
 use Rattle.object_elf.specs.declared.layout.PartHeader.{PartHeader}
 use Rattle.object_elf.specs.Layout.{Part, is_stored, start_after, end_after, end_of_parts}
 use Rattle.object_elf.specs.ElfHolds.{null_section}
@@ -79,3 +79,20 @@ end_is_fold parts = refl
 -- the null header stands in front
 pub first_row : (out new : List ℕ) (parts : List PartHeader) → new ≡ out ++ section_row_bytes null_section → new ++ rows_bytes 1 64 (map part_view parts) ≡ out ++ flat_map section_row_bytes (section_rows (map part_view parts))
 first_row out new parts e = ap (λ l. l ++ rows_bytes 1 64 (map part_view parts)) e ∙ append_assoc out (section_row_bytes null_section) (rows_bytes 1 64 (map part_view parts))
+
+-- ---- the list of parts
+
+view_next : (ps new : List PartHeader) (part : PartHeader) (p : Part) → new ≡ ps ++ part ∷ [] → part_view part ≡ p → map part_view new ≡ map part_view ps ++ p ∷ []
+view_next ps new part p e v = ap (map part_view) e ∙ map-append part_view ps (part ∷ []) ∙ ap (λ q. map part_view ps ++ q ∷ []) v
+
+-- the parts that are listed one after the other
+pub parts_listed : (p0 p1 p2 p3 p4 p5 p6 : List PartHeader) (a b c d : PartHeader) (cs rs : List Part) (n s t u : Part) → p0 ≡ [] → map part_view p1 ≡ map part_view p0 ++ cs → p2 ≡ p1 ++ a ∷ [] → part_view a ≡ n
+    → map part_view p3 ≡ map part_view p2 ++ rs → p4 ≡ p3 ++ b ∷ [] → part_view b ≡ s → p5 ≡ p4 ++ c ∷ [] → part_view c ≡ t → p6 ≡ p5 ++ d ∷ [] → part_view d ≡ u
+    → map part_view p6 ≡ cs ++ n ∷ rs ++ s ∷ t ∷ u ∷ []
+parts_listed p0 p1 p2 p3 p4 p5 p6 a b c d cs rs n s t u e0 e1 e2 va e3 e4 vb e5 vc e6 vd =
+    let f1 : map part_view p1 ≡ cs = e1 ∙ ap (λ l. map part_view l ++ cs) e0 in
+    let f2 : map part_view p2 ≡ cs ++ n ∷ [] = view_next p1 p2 a n e2 va ∙ ap (λ l. l ++ n ∷ []) f1 in
+    let f3 : map part_view p3 ≡ cs ++ n ∷ rs = e3 ∙ ap (λ l. l ++ rs) f2 ∙ append_assoc cs (n ∷ []) rs in
+    let f4 : map part_view p4 ≡ cs ++ n ∷ rs ++ s ∷ [] = view_next p3 p4 b s e4 vb ∙ ap (λ l. l ++ s ∷ []) f3 in
+    let f5 : map part_view p5 ≡ cs ++ n ∷ rs ++ s ∷ t ∷ [] = view_next p4 p5 c t e5 vc ∙ ap (λ l. l ++ t ∷ []) f4 ∙ append_assoc (cs ++ n ∷ rs) (s ∷ []) (t ∷ []) in
+    view_next p5 p6 d u e6 vd ∙ ap (λ l. l ++ u ∷ []) f5 ∙ append_assoc (cs ++ n ∷ rs) (s ∷ t ∷ []) (u ∷ [])

@@ -30,3 +30,7 @@ part_name_size p = length p.name + 1
 
 abbrev pub part_name : Part → List ℕ
 part_name p = p.name
+
+-- the part of a symbol table in this row, of so many symbols and local rows
+abbrev pub symbol_part_of : ℕ → ℕ → ℕ → Part
+symbol_part_of symbols locals row = record { name = codes ".symtab"; sh_type = 2; flags = 0; size = 24 * (symbols + 1); link = row + 1; info = locals; align = 8; entsize = 24 }

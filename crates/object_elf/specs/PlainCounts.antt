@@ -30,3 +30,10 @@ pub record IsJudged {A : Type 0} (result : Result A EmitError) (counts : Counts)
   pub ok : OnOk result (cause ≡ None)
   pub err : IfErr result (λ e. TellsLimit e cause)
   pub told : counts.sections < 2 ^ 64 → IfSome cause (λ e. result ≡ Err e)
+
+-- no limit is reached
+pub record IsWithinLimits (counts : Counts) : Type 0 where
+  pub sections : counts.sections < 65280
+  pub symbols : counts.symbols < 2 ^ 32
+  pub contents : counts.contents < 2 ^ 63
+  pub names : counts.names < 2 ^ 32

@@ -115,3 +115,10 @@ header_with machine flags start count =
       shnum = count + 1;
       shstrndx = count;
     }
+
+-- the rows of symbols in the order of the table
+abbrev pub rows_in_order : List Symbol → List ElfTableSymbol
+rows_in_order symbols = map elf_symbol (filter is_local symbols ++ filter is_global symbols)
+
+abbrev pub row_names : List ElfTableSymbol → List (List ℕ)
+row_names rows = map (λ s. s.name) rows

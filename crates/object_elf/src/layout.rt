@@ -1,14 +1,18 @@
 //! The parts of the file in order, and where they end. Each starts at a multiple of its alignment.
 
-ghost use Rattle.std.specs.Prelude.{◌≡◌, ℕ, ◌+◌, ◌*◌, ◌≤◌, ◌<◌, ◌^◌, ◌++◌, Some, MatchOption, IfSome, IfOk, OnOk, map, slice_get, length};
-ghost use Rattle.object_core.specs.ElfRows.{elf_section_type, elf_section_flags, retain_flag};
-ghost use Rattle.object_core.specs.Object.{SectionData};
-ghost use Rattle.object_elf.specs.Layout.{end_after, end_of_parts, start_after};
-ghost use Rattle.object_elf.specs.PartView.{part_view, content_part_of, relocation_part_of, relocation_parts_from};
+ghost use Rattle.std.specs.Prelude.{◌≡◌, ℕ, ◌+◌, ◌*◌, ◌≤◌, ◌<◌, ◌^◌, ◌++◌, Some, MatchOption, IfSome, IfOk, OnOk, map, slice_get, length, count_by};
+ghost use Rattle.object_core.specs.ElfRows.{elf_table_of, elf_section_type, elf_section_flags, retain_flag};
+ghost use Rattle.object_core.specs.Object.{SectionData, is_local};
+ghost use Rattle.object_elf.specs.Layout.{end_after, end_of_parts, start_after, string_part, parts_of};
+ghost use Rattle.object_elf.specs.PlainCounts.{plain_counts, IsWithinLimits};
+ghost use Rattle.object_elf.specs.Writing.{has_relocations};
+ghost use Rattle.object_elf.specs.PartView.{part_view, symbol_part_of, content_part_of, relocation_part_of, relocation_parts_from};
 
+use crate::limits::{relocated_count, section_names_size, symbol_names_size};
+use crate::symbol_rows::local_count;
 use byte_core::align_up;
-use object_core::{Section, SectionKind};
-use std::alloc::AllocError;
+use object_core::{Object, Section, SectionKind, Symbol};
+use std::alloc::{AllocError, Global};
 
 /// A section of the file, by the fields of its header but for the places: System V gABI, "Sections".
 #[derive(Clone, Copy)]
@@ -23,6 +27,82 @@ pub(crate) struct PartHeader<'a> {
     pub(crate) info: u32,
     pub(crate) align: u64,
     pub(crate) entsize: u64,
+}
+
+/// No part of the object needs an executable stack.
+const NOTE_PART: PartHeader<'static> = PartHeader {
+    prefix: b"",
+    name: b".note.GNU-stack",
+    sh_type: 1,
+    flags: 0,
+    size: 0,
+    link: 0,
+    info: 0,
+    align: 1,
+    entsize: 0,
+};
+
+/// The parts of the object's file in order.
+pub(crate) fn parts_of<'a>(
+    alloc: Global,
+    object: &'a Object,
+) -> Result<Vec<PartHeader<'a>>, AllocError>
+    requires { IsWithinLimits (plain_counts object.now) }
+    ensures { IfOk result (λ parts. map part_view parts.items ≡ parts_of (elf_table_of object.now)) }
+{
+    let sections = object.sections();
+    let symbols = object.symbols();
+    let table = symbol_table_row(sections);
+    let mut parts = Vec::new(alloc);
+    push_content_parts(&mut parts, sections)?;
+    parts.push(NOTE_PART)?;
+    push_relocation_parts(&mut parts, sections, table)?;
+    parts.push(symbol_part(symbols, table))?;
+    parts.push(string_part(b".strtab", symbol_names_size(symbols) as u64))?;
+    parts.push(string_part(b".shstrtab", section_names_size(sections) as u64))?;
+    Ok(parts)
+}
+
+/// The header row of the symbol table.
+fn symbol_table_row(sections: &[Section]) -> u32
+    requires { length sections.now + 2 + count_by has_relocations sections.now < 2 ^ 32 }
+    ensures { result ≡ length sections.now + 2 + count_by has_relocations sections.now }
+{
+    (sections.len() + 2 + relocated_count(sections)) as u32
+}
+
+fn symbol_part(symbols: &[Symbol], table: u32) -> PartHeader<'static>
+    requires symbols { length symbols.now + 1 < 2 ^ 32 }
+    requires table { table + 1 < 2 ^ 32 }
+    ensures { part_view result ≡ symbol_part_of (length symbols.now) (1 + count_by is_local symbols.now) table }
+{
+    PartHeader {
+        prefix: b"",
+        name: b".symtab",
+        sh_type: 2,
+        flags: 0,
+        size: 24 * (symbols.len() as u64 + 1),
+        link: table + 1,
+        info: 1 + local_count(symbols) as u32,
+        align: 8,
+        entsize: 24,
+    }
+}
+
+fn string_part(name: &'static [u8], size: u64) -> PartHeader<'static>
+    ensures { part_view result ≡ string_part name.now size }
+{
+    PartHeader {
+        prefix: b"",
+        name,
+        sh_type: 3,
+        flags: 0,
+        size,
+        link: 0,
+        info: 0,
+        align: 1,
+        entsize: 0,
+    }
 }
 
 /// Where a part starts behind one that ends here. None past the numbers of 64 bits.

@@ -8,8 +8,11 @@ ghost use Rattle.object_elf.specs.PlainCounts.{plain_counts, symbol_name_size, s
 use object_core::{EmitError, Object, Section, Symbol, What};
 
 const SECTIONS: u128 = 65_280;
+
 const SYMBOLS: u64 = 1 << 32;
+
 const CONTENTS: u128 = 1 << 63;
+
 const NAMES: u128 = 1 << 32;
 
 /// The first limit that the object reaches. It takes no memory.
@@ -54,10 +57,14 @@ fn too_many_sections(rows: u128) -> EmitError
     }
 }
 
-fn relocated_count(sections: &[Section]) -> usize
+/// How many sections have relocations.
+pub(crate) fn relocated_count(sections: &[Section]) -> usize
     ensures { result ≡ count_by has_relocations sections.now }
 {
-    sections.iter().filter(|section| has_relocations(section)).count()
+    sections
+        .iter()
+        .filter(|section| has_relocations(section))
+        .count()
 }
 
 pub(crate) fn has_relocations(section: &Section) -> bool

@@ -29,10 +29,7 @@ pub(crate) fn push_symbol_names(
 
 #[tactic(auto, unfolding(crate::specs::Layout::string_bytes_of))]
 /// Appends the string section of the names of the parts.
-pub(crate) fn push_part_names(
-    out: &mut Vec<u8>,
-    parts: &[PartHeader<'_>],
-) -> Result<(), AllocError>
+pub(crate) fn push_part_names(out: &mut Vec<u8>, parts: &[PartHeader<'_>]) -> Result<(), AllocError>
     ensures { OnOk result (out.new.items ≡ out.old.items ++ string_bytes_of (map part_name (map part_view parts.now))) }
 {
     out.push(0)?;

@@ -17,7 +17,7 @@ unwrap-start-requires c =
     let next = part_next c.args.parts.now c.loop-part.part-index no_part c.loop-part-test.true in
     let room = end_room c.loop-part.end _ _ _ _ next c.loop-part.invariant.end in
     place_some c.start_behind.result _ c.start_behind.ensures
-      (omega (arith, room, start_after-le c.loop-part.end (part_view (get_or c.args.parts.now c.loop-part.part-index no_part)), end_is_fold c.args.parts.now, c.requires.end))
+    (omega (arith, room, start_after-le c.loop-part.end (part_view (get_or c.args.parts.now c.loop-part.part-index no_part)), end_is_fold c.args.parts.now, c.requires.end))
 
 pub unwrap-end-requires : goal.unwrap-end-requires
 unwrap-end-requires c =
