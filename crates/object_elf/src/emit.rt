@@ -139,7 +139,8 @@ fn push_symbol_strings(out: &mut Vec<u8>, symbols: &[Symbol]) -> Result<(), Allo
 {
     out.push(0)?;
     push_symbol_names(out, symbols, true)?;
-    push_symbol_names(out, symbols, false)
+    push_symbol_names(out, symbols, false)?;
+    Ok(())
 }
 
 #[cfg(test)]
