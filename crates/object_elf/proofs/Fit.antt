@@ -23,7 +23,7 @@ use Rattle.object_core.specs.WellFormed.{PlaceFits, IsFormedSymbol, IsFormedRelo
 use Rattle.object_core.specs.LinkTable.{ElfTable, ElfTableSection, ElfTableSymbol, ElfRelocation}
 use Rattle.object_elf.specs.Layout.{parts_of, file_length}
 use Rattle.object_elf.specs.Fitting.{FitsElf, FitsSection, FitsSymbol, FitsRelocation, HasContents}
-use Rattle.object_elf.specs.Writing.{FitsRow, FitRows, FitSizes, FitsRecord, FitRecords, NameSymbols, is_chosen}
+use Rattle.object_elf.specs.Writing.{NumbersFit, FitsRow, FitRows, FitSizes, FitsRecord, FitRecords, NameSymbols, is_chosen}
 use Rattle.object_elf.specs.PlainCounts.{plain_counts, IsWithinLimits}
 use Rattle.object_elf.proofs.Lists.{get_within, get_map_from, get_append, one_of_sum, Passing, passing}
 use Rattle.object_elf.proofs.PartCases.{length-parts_of}
@@ -157,16 +157,7 @@ relocation_fits o s k m r f g fit e =
 section_is : (o : ObjectData) (k : ℕ) (s : SectionData) → AreSections o.sections o.content_sum → slice_get o.sections k ≡ Some s → IsSection s
 section_is o k s a e = subst IsSection (get_or_from_slice_get o.sections k s s e) (a.each k s (get_within o.sections k s e))
 
--- what the writers tell of the numbers of an object
-pub record Written (o : ObjectData) : Type 0 where
-  pub flags : o.e_flags < 2 ^ 32
-  pub aligns : (k : ℕ) (s : SectionData) → slice_get o.sections k ≡ Some s → s.align < 2 ^ 64
-  pub records : (k : ℕ) (s : SectionData) → slice_get o.sections k ≡ Some s → FitRecords s.relocations
-  pub locals : FitSizes true o.symbols
-  pub others : FitSizes false o.symbols
-  pub file : file_length (elf_table_of o) < 2 ^ 64
-
-section_fits : (o : ObjectData) (k : ℕ) (s : SectionData) → IsFormedElf o → AreSections o.sections o.content_sum → IsWithinLimits (plain_counts o) → Written o → slice_get o.sections k ≡ Some s → FitsSection (elf_table_of o) (elf_section o.symbols s)
+section_fits : (o : ObjectData) (k : ℕ) (s : SectionData) → IsFormedElf o → AreSections o.sections o.content_sum → IsWithinLimits (plain_counts o) → NumbersFit o → slice_get o.sections k ≡ Some s → FitsSection (elf_table_of o) (elf_section o.symbols s)
 section_fits o k s f a l w e = record {
   name = f.names k s e;
   contents = contents_by_kind s.kind (length s.contents) s.size (section_is o k s a e).contents;
@@ -189,20 +180,20 @@ symbol_fits o local s f l sizes p =
       size = sizes p.place s p.at p.passes;
     }
 
-symbol_of_table : (o : ObjectData) → IsFormedElf o → IsWithinLimits (plain_counts o) → Written o → (k : ℕ) (s : Symbol) → slice_get (filter is_local o.symbols ++ filter is_global o.symbols) k ≡ Some s → FitsSymbol (elf_table_of o) (elf_symbol s)
+symbol_of_table : (o : ObjectData) → IsFormedElf o → IsWithinLimits (plain_counts o) → NumbersFit o → (k : ℕ) (s : Symbol) → slice_get (filter is_local o.symbols ++ filter is_global o.symbols) k ≡ Some s → FitsSymbol (elf_table_of o) (elf_symbol s)
 symbol_of_table o f l w k s e =
     elim (get_append (filter is_local o.symbols) (filter is_global o.symbols) k s e) [
       | inl h ↦ symbol_fits o true s f l w.locals (passing (is_chosen true) o.symbols k s h)
       | inr r ↦ symbol_fits o false s f l w.others (passing (is_chosen false) o.symbols r.0 s r.2)
     ]
 
-section_of_table : (o : ObjectData) → IsFormedElf o → AreSections o.sections o.content_sum → IsWithinLimits (plain_counts o) → Written o → (k : ℕ) (s : ElfTableSection) → slice_get (elf_table_of o).sections k ≡ Some s → FitsSection (elf_table_of o) s
+section_of_table : (o : ObjectData) → IsFormedElf o → AreSections o.sections o.content_sum → IsWithinLimits (plain_counts o) → NumbersFit o → (k : ℕ) (s : ElfTableSection) → slice_get (elf_table_of o).sections k ≡ Some s → FitsSection (elf_table_of o) s
 unfolding elf_table_of
 section_of_table o f a l w k s e =
     let from = get_map_from (elf_section o.symbols) o.sections k s e in
     rw (← from.2) (section_fits o k from.0 f a l w from.1)
 
-row_of_table : (o : ObjectData) → IsFormedElf o → IsWithinLimits (plain_counts o) → Written o → (k : ℕ) (s : ElfTableSymbol) → slice_get (elf_table_of o).symbols k ≡ Some s → FitsSymbol (elf_table_of o) s
+row_of_table : (o : ObjectData) → IsFormedElf o → IsWithinLimits (plain_counts o) → NumbersFit o → (k : ℕ) (s : ElfTableSymbol) → slice_get (elf_table_of o).symbols k ≡ Some s → FitsSymbol (elf_table_of o) s
 unfolding elf_table_of
 row_of_table o f l w k s e =
     let from = get_map_from elf_symbol (filter is_local o.symbols ++ filter is_global o.symbols) k s e in
@@ -220,16 +211,16 @@ pub flags_are : (o : ObjectData) → (elf_table_of o).flags ≡ o.e_flags
 unfolding elf_table_of
 flags_are o = refl
 
-pub table_fits : (o : ObjectData) → IsFormedElf o → AreSections o.sections o.content_sum → IsWithinLimits (plain_counts o) → Written o → FitsElf (elf_table_of o)
-table_fits o f a l w = record {
+pub table_fits : (o : ObjectData) → IsFormedElf o → IsWithinLimits (plain_counts o) → NumbersFit o → o.e_flags < 2 ^ 32 → file_length (elf_table_of o) < 2 ^ 64 → FitsElf (elf_table_of o)
+table_fits o f l w flags file = record {
   machine = rw (machine_is o) (machine_fits o.architecture);
-  flags = rw (flags_are o) w.flags;
-  sections = section_of_table o f a l w;
+  flags = rw (flags_are o) flags;
+  sections = section_of_table o f w.sections l w;
   symbols = row_of_table o f l w;
   locals = local_rows o;
   section_count = omega (arith, length-parts_of (elf_table_of o), front_count_is o, l.sections);
   symbol_count = omega (arith, symbol_count_is o, l.symbols);
   symbol_names_size = omega (arith, symbol_names_size_is o, l.names);
   section_names_size = omega (arith, section_names_size_is o, l.names);
-  file = w.file;
+  file = file;
 }
