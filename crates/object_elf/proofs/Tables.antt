@@ -12,6 +12,7 @@ use Rattle.object_core.specs.ElfRows.{elf_symbol, elf_section, elf_relocation, e
 use Rattle.object_core.specs.LinkTable.{ElfTable, ElfTableSection, ElfTableSymbol}
 use Rattle.object_elf.specs.Layout.{Part, is_relocated, symbol_table_row, strings_size, section_names, symbol_names, content_part, note_part, relocation_part, relocation_name, symbol_part, string_part, parts_of}
 use Rattle.object_elf.specs.Counts.{Counts, elf_counts}
+use Rattle.object_elf.specs.Writing as rows
 use Rattle.object_elf.specs.Writing.{has_relocations, chosen}
 use Rattle.object_elf.specs.PartView.{symbol_part_of, content_part_of, relocation_part_of, relocation_parts_from, has_records}
 use Rattle.object_elf.specs.PlainCounts.{plain_counts, symbol_name_size, section_name_size}
@@ -176,3 +177,13 @@ parts_are o link e =
 pub symbol_part_is : (o : ObjectData) (row : ℕ) → symbol_table_row (elf_table_of o) ≡ row → symbol_part (elf_table_of o) ≡ symbol_part_of (length o.symbols) (1 + count_by is_local o.symbols) row
 unfolding elf_table_of
 symbol_part_is o row e = rw (e, symbol_count_is o) refl
+
+-- ---- both kinds of symbols
+
+chosen_past : (s : Symbol) (ls gs : List Symbol) (b : Bool) → rows.names_size (map elf_symbol (cond b (s ∷ ls) ls)) + rows.names_size (map elf_symbol (cond (not b) (s ∷ gs) gs)) ≡ length s.name + 1 + (rows.names_size (map elf_symbol ls) + rows.names_size (map elf_symbol gs))
+chosen_past s ls gs true = omega (arith, sum_by-cons rows.name_size (elf_symbol s) (map elf_symbol ls))
+chosen_past s ls gs false = omega (arith, sum_by-cons rows.name_size (elf_symbol s) (map elf_symbol gs))
+
+pub chosen_sizes : (ss : List Symbol) → rows.names_size (chosen true ss) + rows.names_size (chosen false ss) ≡ sum_by symbol_name_size ss
+chosen_sizes [] = refl
+chosen_sizes (s ∷ ss) = omega (arith, chosen_past s (filter is_local ss) (filter is_global ss) (is_local s), chosen_sizes ss, sum_by-cons symbol_name_size s ss)

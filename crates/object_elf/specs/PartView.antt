@@ -1,9 +1,11 @@
 -- What a contract sees of the parts that the writer lists.
-use Rattle.std.specs.Prelude.{ℕ, ◌+◌, ◌*◌, ◌==◌, Bool, not, List, ◌++◌, length, map, filter, codes}
+use Rattle.std.specs.Prelude.{ℕ, ◌+◌, ◌*◌, ◌==◌, Bool, not, List, ◌++◌, length, map, filter, flat_map, replicate, ◌-◌, codes}
 use Rattle.std.specs.List.{enumerate_from}
+use Rattle.std.specs.Int.{next_multiple_of}
 use Rattle.object_core.specs.Object.{SectionData}
 use Rattle.object_elf.specs.declared.layout.PartHeader.{PartHeader}
-use Rattle.object_elf.specs.Layout.{Part, content_part}
+use Rattle.object_elf.specs.Layout.{Part, content_part, string_bytes_of}
+use Rattle.object_elf.specs.File.{section_row_bytes, section_rows}
 use Rattle.object_elf.specs.Writing.{plain_section, has_relocations}
 
 abbrev pub part_view : PartHeader → Part
@@ -34,3 +36,13 @@ part_name p = p.name
 -- the part of a symbol table in this row, of so many symbols and local rows
 abbrev pub symbol_part_of : ℕ → ℕ → ℕ → Part
 symbol_part_of symbols locals row = record { name = codes ".symtab"; sh_type = 2; flags = 0; size = 24 * (symbols + 1); link = row + 1; info = locals; align = 8; entsize = 24 }
+
+-- -- the end of a file
+
+-- bytes with zeros up to a multiple of 8
+abbrev pub with_padding : List ℕ → List ℕ
+with_padding bytes = bytes ++ replicate (next_multiple_of (length bytes) 8 - length bytes) 0
+
+-- bytes with the names of the parts and their headers behind them
+abbrev pub with_end : List ℕ → List Part → List ℕ
+with_end bytes parts = with_padding (bytes ++ string_bytes_of (map part_name parts)) ++ flat_map section_row_bytes (section_rows parts)

@@ -1,6 +1,6 @@
 //! The file of an object.
 
-ghost use Rattle.std.specs.Prelude.{◌≡◌, ℕ, ◌+◌, ◌*◌, ◌<◌, ◌≤◌, ◌^◌, ◌∷◌, [], ◌++◌, IfOk, OnOk, map, true, false, slice_get, Some};
+ghost use Rattle.std.specs.Prelude.{◌≡◌, ℕ, ◌+◌, ◌*◌, ◌<◌, ◌≤◌, ◌^◌, ◌∷◌, [], ◌++◌, IfOk, OnOk, map, true, false, slice_get, Some, length, sum_by};
 ghost use Rattle.std.specs.Int.{next_multiple_of};
 ghost use Rattle.byte_core.specs.LaidOut.{LaysOut};
 ghost use Rattle.ir_core.specs.declared.target.BinaryFormat.TheVariants.{Elf};
@@ -13,9 +13,9 @@ ghost use Rattle.object_elf.specs.File.{elf_file, symbol_contents};
 ghost use Rattle.object_elf.specs.Fitting.{FitsElf};
 ghost use Rattle.object_elf.specs.Layout.{end_of_parts, string_bytes_of};
 ghost use Rattle.object_elf.specs.Limits.{limit_cause};
-ghost use Rattle.object_elf.specs.PartView.{part_view};
+ghost use Rattle.object_elf.specs.PartView.{part_view, part_name_size, with_end};
 ghost use Rattle.object_elf.specs.PlainCounts.{plain_counts, IsJudged, IsWithinLimits};
-ghost use Rattle.object_elf.specs.Writing.{contents_at, FitRows, FitSizes, names_size, chosen, rows_in_order, row_names};
+ghost use Rattle.object_elf.specs.Writing.{body_of, NumbersFit, contents_at, FitRows, FitSizes, names_size, chosen, rows_in_order, row_names};
 
 use crate::header::push_header;
 use crate::layout::{PartHeader, end_of_parts, parts_of};
@@ -48,10 +48,8 @@ fn write_file(alloc: Global, object: &Object) -> Result<Vec<u8>, AllocError>
     ensures fits { OnOk result (FitsElf (elf_table_of object.now)) }
     ensures bytes { IfOk result (λ file. file.items ≡ elf_file (elf_table_of object.now)) }
 {
-    let sections = object.sections();
-    let symbols = object.symbols();
     let parts = parts_of(alloc, object)?;
-    let rows = rows_of_symbols(alloc, symbols)?;
+    let rows = rows_of_symbols(alloc, object.symbols())?;
     let count = parts.len() as u16;
     let start = headers_start(&parts)?;
     let mut file = Vec::with_capacity(alloc, file_length(start, count)?)?;
@@ -62,14 +60,37 @@ fn write_file(alloc: Global, object: &Object) -> Result<Vec<u8>, AllocError>
         start,
         count,
     )?;
-    push_contents(&mut file, sections)?;
-    push_relocations(&mut file, sections, &rows)?;
-    push_symbol_table(&mut file, symbols)?;
-    push_symbol_strings(&mut file, symbols)?;
-    push_part_names(&mut file, &parts)?;
-    push_padding(&mut file, 8)?;
-    push_section_rows(&mut file, &parts)?;
+    push_body(&mut file, object, &rows)?;
+    push_end(&mut file, &parts)?;
     Ok(file)
+}
+
+/// Appends contents, relocations, symbols and their names. The rows are those of the symbols.
+fn push_body(file: &mut Vec<u8>, object: &Object, rows: &[u32]) -> Result<(), AllocError>
+    requires formed { IsFormedElf object.now }
+    requires limits { IsWithinLimits (plain_counts object.now) }
+    requires count { length rows.now ≡ length (object.now).symbols }
+    ensures bytes { OnOk result (LaysOut file.old.items file.new.items (body_of object.now rows.now)) }
+    ensures numbers { OnOk result (NumbersFit object.now) }
+{
+    let sections = object.sections();
+    let symbols = object.symbols();
+    push_contents(file, sections)?;
+    push_relocations(file, sections, rows)?;
+    push_symbol_table(file, symbols)?;
+    push_symbol_strings(file, symbols)?;
+    Ok(())
+}
+
+/// Appends the names of the parts and their headers.
+fn push_end(file: &mut Vec<u8>, parts: &[PartHeader<'_>]) -> Result<(), AllocError>
+    requires names { 1 + sum_by part_name_size (map part_view parts.now) < 2 ^ 32 }
+    requires end { end_of_parts (map part_view parts.now) < 2 ^ 64 }
+    ensures { OnOk result (file.new.items ≡ with_end file.old.items (map part_view parts.now)) }
+{
+    push_part_names(file, parts)?;
+    push_padding(file, 8)?;
+    push_section_rows(file, parts)
 }
 
 /// Where the section headers start.
@@ -139,7 +160,8 @@ fn push_symbol_strings(out: &mut Vec<u8>, symbols: &[Symbol]) -> Result<(), Allo
 {
     out.push(0)?;
     push_symbol_names(out, symbols, true)?;
-    push_symbol_names(out, symbols, false)
+    push_symbol_names(out, symbols, false)?;
+    Ok(())
 }
 
 #[cfg(test)]

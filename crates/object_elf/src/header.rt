@@ -1,6 +1,6 @@
 //! The file header: System V gABI, "ELF Header".
 
-ghost use Rattle.std.specs.Prelude.{◌≡◌, ◌+◌, ◌<◌, ◌++◌, OnOk};
+ghost use Rattle.std.specs.Prelude.{◌≡◌, ◌+◌, ◌<◌, ◌^◌, ◌++◌, OnOk};
 ghost use Rattle.byte_core.specs.Fields.{field_bytes};
 ghost use Rattle.object_core.specs.ElfRows.{elf_machine};
 ghost use Rattle.object_elf.specs.File.{header_bytes, header_fields};
@@ -23,7 +23,8 @@ pub(crate) fn push_header(
     count: u16,
 ) -> Result<(), AllocError>
     requires { count + 1 < 65536 }
-    ensures { OnOk result (out.new.items ≡ out.old.items ++ header_bytes (header_with (elf_machine architecture) flags start count)) }
+    ensures bytes { OnOk result (out.new.items ≡ out.old.items ++ header_bytes (header_with (elf_machine architecture) flags start count)) }
+    ensures flags { flags < 2 ^ 32 }
 {
     out.extend_from_slice(&IDENT)?;
     push_numbers(out, architecture, flags, start, count)
