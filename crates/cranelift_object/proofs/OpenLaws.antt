@@ -19,9 +19,9 @@ use Rattle.cranelift_object.specs.Opened.{function_definition}
 use Rattle.cranelift_object.specs.SectionClass.{Class, section_class, standard_class}
 use Rattle.cranelift_object.specs.Placing.{Placed, share, sections_used, section_number}
 use Rattle.cranelift_object.specs.Linked.{section_with}
-use Rattle.cranelift_object.proofs.SectionLaws.{sections_from, sections_opened}
-use Rattle.cranelift_object.proofs.ClassLaws.{placed_of, placed_below, used-end, any_used, number_new}
-use Rattle.cranelift_object.proofs.ObjectLaws.{partial, partial_with, opened, number_behind}
+use Rattle.cranelift_object.specs.Partial.{placed_of, sections_from, partial_with, partial, opened, number_behind}
+use Rattle.cranelift_object.proofs.SectionLaws.{sections_opened}
+use Rattle.cranelift_object.proofs.ClassLaws.{placed_below, used-end, any_used, number_new}
 
 -- -- numbers of sections
 
@@ -52,7 +52,7 @@ number_shared settings s ds standard classes class e =
     let ps : List Placed = placed_of settings s ds in
     let count = sections_length settings s 0 used ps in
     let found : unwrap_or (position_from (λ (c : Class). is_same_shared (Some standard) c.shared) 0 used) (length (sections_from settings s 0 used ps)) ≡ 0 + position_or_len (λ (c : Class). is_same_shared (Some standard) c.shared) used =
-          place_or_len (λ (c : Class). is_same_shared (Some standard) c.shared) 0 (length (sections_from settings s 0 used ps)) used (omega (arith, count))
+    place_or_len (λ (c : Class). is_same_shared (Some standard) c.shared) 0 (length (sections_from settings s 0 used ps)) used (omega (arith, count))
     in
     let places = ap (λ (o : Option ℕ). unwrap_or o (length (sections_from settings s 0 used ps))) (shared_from settings s standard 0 0 used ps) in
     let zero_more : 0 + position_or_len (λ (c : Class). is_same_shared (Some standard) c.shared) used ≡ position_or_len (λ (c : Class). is_same_shared (Some standard) c.shared) used = omega arith in
@@ -89,9 +89,9 @@ opened_new settings s ds d new none e =
     let more = used-end classes (section_class settings s d) in
     let ps : List Placed = placed_of settings s ds in
     let listed : sections_from settings s 0 (sections_used (classes ++ section_class settings s d ∷ [])) ps ≡ sections_from settings s 0 (sections_used classes) ps ++ new ∷ [] =
-          ap (λ (cs : List Class). sections_from settings s 0 cs ps) (more ∙ ap (λ (b : Bool). sections_used classes ++ cond b [] (section_class settings s d ∷ [])) none)
-            ∙ sections_opened settings s 0 (sections_used classes) (section_class settings s d) ps (All-weaker (λ (p : Placed). p.section < length (sections_used classes)) (λ (p : Placed). p.section < 0 + length (sections_used classes)) (λ p l. omega arith) ps (placed_below settings s ds))
-            ∙ ap (λ (x : SectionData). sections_from settings s 0 (sections_used classes) ps ++ x ∷ []) e
+    ap (λ (cs : List Class). sections_from settings s 0 cs ps) (more ∙ ap (λ (b : Bool). sections_used classes ++ cond b [] (section_class settings s d ∷ [])) none)
+    ∙ sections_opened settings s 0 (sections_used classes) (section_class settings s d) ps (All-weaker (λ (p : Placed). p.section < length (sections_used classes)) (λ (p : Placed). p.section < 0 + length (sections_used classes)) (λ p l. omega arith) ps (placed_below settings s ds))
+    ∙ ap (λ (x : SectionData). sections_from settings s 0 (sections_used classes) ps ++ x ∷ []) e
     in
     ap (λ (xs : List SectionData). record (partial settings s ds) { sections = xs }) listed
 
@@ -155,9 +155,9 @@ opened_shared settings s ds function contents shared =
     let test : Class → Bool = λ c. is_same_shared (Some Text) c.shared in
     let used : List Class = sections_used (map (section_class settings s) ds) in
     elim (cases_Bool (list_any (share class) (map (section_class settings s) ds))) [
-      inl known ↦ (let found = found_some test 0 used (any ∙ known) in opened_known settings s ds d known ∙ ap (with_standard (partial settings s ds) Text) (sym (standard_of settings s ds ∙ found.1)))
+      | inl known ↦ (let found = found_some test 0 used (any ∙ known) in opened_known settings s ds d known ∙ ap (with_standard (partial settings s ds) Text) (sym (standard_of settings s ds ∙ found.1)))
       | inr new ↦ (let found = found_none test 0 used (any ∙ new) in
-            opened_new settings s ds d (empty_standard Text) new (ap (λ (c : Class). section_with settings s c []) same ∙ empty_shared settings s) ∙ ap (with_standard (partial settings s ds) Text) (sym (standard_of settings s ds ∙ found)))
+          opened_new settings s ds d (empty_standard Text) new (ap (λ (c : Class). section_with settings s c []) same ∙ empty_shared settings s) ∙ ap (with_standard (partial settings s ds) Text) (sym (standard_of settings s ds ∙ found)))
     ]
 
 pub number_text : (settings : Settings) (s : LinkState) (ds : List Definition) (function : ℕ) (contents : List ℕ) → settings.function_sections ≡ false
