@@ -17,6 +17,7 @@ use Rattle.cranelift_module.specs.LinkState.{LinkState}
 use Rattle.cranelift_object.specs.Settings.{Settings}
 use Rattle.cranelift_object.specs.SectionClass.{Class, section_class}
 use Rattle.cranelift_object.specs.Placing.{Placed, share, sections_used, section_number, number_of, standing_in, placed_at, align_of, extent_of}
+use Rattle.cranelift_object.specs.Partial.{placed_of}
 use Rattle.cranelift_object.specs.Linked.{members}
 
 -- -- sharing
@@ -103,10 +104,6 @@ pub used_more : (cs : List Class) (c : Class) → length (sections_used cs) ≤ 
 used_more cs c = rw (used-end cs c, length-append) (omega arith)
 
 -- -- placed definitions
-
--- some definitions, each at its place in a state
-abbrev pub placed_of : Settings → LinkState → List Definition → List Placed
-placed_of settings s ds = map (placed_at settings s) (moments ds)
 
 pub placed_of-end : (settings : Settings) (s : LinkState) (ds : List Definition) (d : Definition) → placed_of settings s (ds ++ d ∷ []) ≡ placed_of settings s ds ++ placed_at settings s (record { before = ds; here = d }) ∷ []
 placed_of-end settings s ds d = map_moments-end (placed_at settings s) ds d

@@ -31,8 +31,8 @@ pub end_plain : (o : OpenModule) (marks : List Bool) → IsModule o marks → en
 unfolding end_cause
 end_plain o marks h =
     ap first_cause
-      (ends_empty (map (missing_function o.state) (enumerate_from 0 o.state.functions)) (map (missing_data o.state) (enumerate_from 0 o.state.objects)) (map (λ (r : ModuleReloc). target_cause o.state r.name) (flat_map (λ (d : Definition). d.relocs) o.state.definitions))
-        (ap (λ objects. map (missing_data o.state) (enumerate_from 0 objects)) h.no_objects) (ap (map (λ (r : ModuleReloc). target_cause o.state r.name)) (no_relocs (length o.state.functions) o.state.definitions h.bodies)))
+    (ends_empty (map (missing_function o.state) (enumerate_from 0 o.state.functions)) (map (missing_data o.state) (enumerate_from 0 o.state.objects)) (map (λ (r : ModuleReloc). target_cause o.state r.name) (flat_map (λ (d : Definition). d.relocs) o.state.definitions))
+    (ap (λ objects. map (missing_data o.state) (enumerate_from 0 objects)) h.no_objects) (ap (map (λ (r : ModuleReloc). target_cause o.state r.name)) (no_relocs (length o.state.functions) o.state.definitions h.bodies)))
 
 -- the functions from a place on
 pub rows_step : (rows : List FunctionRow) (i : ℕ) (row : FunctionRow) → slice_get rows i ≡ Some row → drop i rows ≡ row ∷ drop (i + 1) rows

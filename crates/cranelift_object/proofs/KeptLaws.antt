@@ -1,5 +1,5 @@
 -- What stays true of a module.
-use Rattle.std.proofs.Common.{◌≡◌, ◌≢◌, ℕ, zero, suc, ◌+◌, ◌-◌, ◌==◌, ◌||◌, ◌<◌, ◌≤◌, ◌++◌, ◌∷◌, List, [], Bool, true, false, cond, length, map, get_or, set, Option, Some, None, refl, ap, sym, ◌∙◌, subst, arith, length-append, length-set, eq-eqb, inl, inr, get_or-set_same, get_or-set_other}
+use Rattle.std.proofs.Common.{◌≡◌, ◌≢◌, ℕ, zero, suc, ◌+◌, ◌-◌, ◌==◌, ◌||◌, ◌<◌, ◌≤◌, ◌^◌, ◌++◌, ◌∷◌, List, [], Bool, true, false, cond, length, map, get_or, set, Option, Some, None, refl, ap, sym, ◌∙◌, subst, arith, length-append, length-set, eq-eqb, inl, inr, get_or-set_same, get_or-set_other}
 use Rattle.std.proofs.lemmas.Bool.Decides.{eqb_tells}
 use Rattle.std.proofs.lemmas.List.{append-nil, map-append}
 use Rattle.std.proofs.lemmas.List.Elements.{All-nil, All-push, All-weaker}
@@ -67,7 +67,7 @@ false_past (m ∷ marks) zero = refl
 false_past (m ∷ marks) (suc k) = false_past marks k
 
 IsBody-more : (count more : ℕ) (d : Definition) → count ≤ more → IsBody count d → IsBody more d
-IsBody-more count more d h b = let below : b.function < count = b.declared in record { function = b.function; contents = b.contents; declared = omega arith; is = b.is }
+IsBody-more count more d h b = let below : b.function < count = b.declared in record { function = b.function; contents = b.contents; declared = omega arith; small = b.small; is = b.is }
 
 pub kept_declared : (o : OpenModule) (marks : List Bool) (row : FunctionRow) → IsModule o marks → IsName row.name → length o.state.functions < 4294967295 → IsModule (with_function o row) (marks ++ false ∷ [])
 kept_declared o marks row h name few =
@@ -131,11 +131,11 @@ marking_more marks ds function contents j below marking =
       | inr e ↦ rw (list_any-append, e.0, or_false (list_any (λ (d : Definition). is_same_identifier (Func j) d.identifier) ds), ← marking j) (get_or-set_other marks function j true false e.1)
     ]
 
-pub kept_defined : (o : OpenModule) (marks : List Bool) (function : ℕ) (contents : List ℕ) → IsModule o marks → function < length o.state.functions → get_or marks function false ≡ false → IsModule (with_definition o (function_definition function contents)) (set marks function true)
-kept_defined o marks function contents h below free =
+pub kept_defined : (o : OpenModule) (marks : List Bool) (function : ℕ) (contents : List ℕ) → IsModule o marks → function < length o.state.functions → get_or marks function false ≡ false → length contents < 2 ^ 63 → IsModule (with_definition o (function_definition function contents)) (set marks function true)
+kept_defined o marks function contents h below free small =
     let d : Definition = function_definition function contents in
     let in' : function < length marks = rw h.marked below in
-    let body : IsBody (length o.state.functions) d = record { function = function; contents = contents; declared = below; is = refl } in
+    let body : IsBody (length o.state.functions) d = record { function = function; contents = contents; declared = below; small = small; is = refl } in
     record {
       begun = h.begun;
       no_objects = h.no_objects;
@@ -149,7 +149,7 @@ kept_defined o marks function contents h below free =
     }
 
 -- a module with one more definition
-pub kept_body : (o : OpenModule) (marks : List Bool) (d : Definition) (definitions : List Definition) (function i : ℕ) (contents : List ℕ) → IsModule o marks → function < length o.state.functions → get_or marks function false ≡ false
+pub kept_body : (o : OpenModule) (marks : List Bool) (d : Definition) (definitions : List Definition) (function i : ℕ) (contents : List ℕ) → IsModule o marks → function < length o.state.functions → get_or marks function false ≡ false → length contents < 2 ^ 63
     → d ≡ function_definition function contents → definitions ≡ o.state.definitions ++ d ∷ [] → i ≡ function
     → IsModule (record { settings = o.settings; state = record { target = o.state.target; functions = o.state.functions; objects = o.state.objects; created = o.state.created; definitions = definitions } }) (set marks i true)
-kept_body o marks d definitions function i contents h below free e f g = rw (f, e, g) (kept_defined o marks function contents h below free)
+kept_body o marks d definitions function i contents h below free small e f g = rw (f, e, g) (kept_defined o marks function contents h below free small)

@@ -25,34 +25,14 @@ use Rattle.cranelift_object.specs.Settings.{Settings}
 use Rattle.cranelift_object.specs.SectionClass.{Class, section_class}
 use Rattle.cranelift_object.specs.Placing.{Placed, placed, placed_at, sections_used, section_number, number_of, standing_in, align_of, room_of, extent_of}
 use Rattle.cranelift_object.specs.Linked.{defined_at, identifier_symbol, symbols_of, sections_of, section_with, members, file_flags, object_of}
-use Rattle.cranelift_object.proofs.SectionLaws.{sections_from, sections_changed, sections_opened, contents_length}
-use Rattle.cranelift_object.proofs.ClassLaws.{placed_of, placed_of-end, placed_below, placed_definitions, members_extents, number_below, used-end}
+use Rattle.cranelift_object.specs.Partial.{placed_of, sections_from, partial_with, partial, opened, number_behind}
+use Rattle.cranelift_object.proofs.SectionLaws.{sections_changed, sections_opened, contents_length}
+use Rattle.cranelift_object.proofs.ClassLaws.{placed_of-end, placed_below, placed_definitions, members_extents, number_below, used-end}
 use Rattle.cranelift_object.proofs.SymbolLaws.{symbols_plain, identifiers_changed}
 
 -- a definition without relocations
 abbrev pub IsPlain : Definition → Type 0
 IsPlain d = d.relocs ≡ []
-
--- the sections of these classes, with the first definitions of a state in them
-abbrev pub partial_with : Settings → LinkState → List Class → List Definition → ObjectData
-partial_with settings s classes ds =
-    record {
-      format = s.target.triple.binary_format;
-      architecture = s.target.triple.architecture;
-      e_flags = file_flags s.target.triple.architecture s.target.flags;
-      build_version = None;
-      sections = sections_from settings s 0 (sections_used classes) (placed_of settings s ds);
-      symbols = file_symbol settings.file_name ∷ map (identifier_symbol s (placed_of settings s ds)) s.created;
-      content_sum = sum_by (λ d. room_of d + align_of s d) ds;
-    }
-
--- the object of a state with its first definitions alone
-unfoldable pub partial : Settings → LinkState → List Definition → ObjectData
-partial settings s ds = partial_with settings s (map (section_class settings s) ds) ds
-
--- that object once the section of one more definition is there
-unfoldable pub opened : Settings → LinkState → List Definition → Definition → ObjectData
-opened settings s ds d = partial_with settings s (map (section_class settings s) ds ++ section_class settings s d ∷ []) ds
 
 -- -- all definitions
 
@@ -72,19 +52,15 @@ partial_whole settings s h = rw (sections_whole settings s s.definitions, symbol
 
 -- -- one more definition
 
-All-slice_get : {A : Type 0} (P : A → Type 0) (xs : List A) (k : ℕ) (x : A) → All P xs → slice_get xs k ≡ Some x → P x
+pub All-slice_get : {A : Type 0} (P : A → Type 0) (xs : List A) (k : ℕ) (x : A) → All P xs → slice_get xs k ≡ Some x → P x
 All-slice_get P xs k x all at = subst P (get_or_from_slice_get xs k x x at) (All-get_or P xs k x (slice_get_within xs k x at) all)
-
--- the place of the section of a definition behind these
-abbrev pub number_behind : Settings → LinkState → List Definition → Definition → ℕ
-number_behind settings s ds d = section_number (map (section_class settings s) ds) (section_class settings s d)
 
 pub class_at : (classes : List Class) (k : ℕ) → k < length classes → (c : Class) × (slice_get classes k ≡ Some c)
 class_at [] k h = absurd (omega arith)
 class_at (c ∷ classes) zero h = (c, refl)
 class_at (c ∷ classes) (suc k) h = class_at classes k (omega arith)
 
-section_at : (settings : Settings) (s : LinkState) (ps : List Placed) (classes : List Class) (i j k : ℕ) (c : Class) → slice_get classes k ≡ Some c → j ≡ i + k → slice_get (sections_from settings s i classes ps) k ≡ Some (section_with settings s c (members ps j))
+pub section_at : (settings : Settings) (s : LinkState) (ps : List Placed) (classes : List Class) (i j k : ℕ) (c : Class) → slice_get classes k ≡ Some c → j ≡ i + k → slice_get (sections_from settings s i classes ps) k ≡ Some (section_with settings s c (members ps j))
 section_at settings s ps [] i j k c at e = absurd (cc)
 section_at settings s ps (d ∷ classes) i j zero c at e =
     let same : d ≡ c = cc in

@@ -21,6 +21,7 @@ use Rattle.cranelift_module.specs.LinkState.{LinkState}
 use Rattle.cranelift_object.specs.Settings.{Settings}
 use Rattle.cranelift_object.specs.SectionClass.{Class, section_class}
 use Rattle.cranelift_object.specs.Placing.{Placed, placed_at, align_of, room_of, extent_of}
+use Rattle.cranelift_object.specs.Partial.{sections_from}
 use Rattle.cranelift_object.specs.Linked.{section_with, members, relocations_of, elf_relocation_of}
 
 -- -- one more member of one section
@@ -73,10 +74,6 @@ section_with-end settings s class ps p none holds =
     rw (aligns, sizes, contents, holds, joined_length s ps, contents_length p.definition.contents, relocations) refl
 
 -- -- the sections of a list of classes
-
--- the sections of these classes, whose numbers begin at i, with the definitions that stand in each
-abbrev pub sections_from : Settings → LinkState → ℕ → List Class → List Placed → List SectionData
-sections_from settings s i classes ps = map (λ (k : ℕ × Class). section_with settings s k.1 (members ps k.0)) (enumerate_from i classes)
 
 one_if : {A : Type 0} (b : Bool) (x : A) (xs : List A) → b ≡ false → xs ++ cond b (x ∷ []) [] ≡ xs
 one_if true x xs h = absurd (cc)

@@ -1,5 +1,5 @@
 -- What holds of every module that can be made: functions alone are declared, and defined by bytes alone.
-use Rattle.std.specs.Prelude.{◌≡◌, ℕ, ◌<◌, ◌≤◌, Bool, true, false, List, [], map, length, slice_index_or, Option, Some, None}
+use Rattle.std.specs.Prelude.{◌≡◌, ℕ, ◌<◌, ◌≤◌, ◌^◌, Bool, true, false, List, [], map, length, slice_index_or, Option, Some, None}
 use Rattle.std.specs.List.{All, list_any, range_with_len}
 use Rattle.ir_core.specs.Moments.{Moment, moments}
 use Rattle.ir_core.specs.declared.target.BinaryFormat.TheVariants.{Elf}
@@ -20,6 +20,7 @@ pub record IsBody (count : ℕ) (d : Definition) : Type 0 where
   pub function : ℕ
   pub contents : List ℕ
   pub declared : function < count
+  pub small : length contents < 2 ^ 63
   pub is : d ≡ function_definition function contents
 
 -- a name has no zero byte

@@ -1,6 +1,6 @@
 //! Definitions as a module keeps them.
 
-ghost use Rattle.std.specs.Prelude.{◌≡◌, IfOk};
+ghost use Rattle.std.specs.Prelude.{◌≡◌, ◌<◌, ◌^◌, length, IfOk, OnOk};
 ghost use Rattle.cranelift_module.specs.declared.identifiers.FuncOrDataId.TheVariants.{Func};
 ghost use Rattle.cranelift_module.specs.Call.{bytes};
 ghost use Rattle.cranelift_object.specs.Opened.{function_definition};
@@ -31,7 +31,8 @@ impl Definition {
         function: FuncId,
         bytes: &[u8],
     ) -> Result<Definition, AllocError>
-        ensures { IfOk result (λ d. d ≡ function_definition function bytes.now) }
+        ensures value { IfOk result (λ d. d ≡ function_definition function bytes.now) }
+        ensures small { OnOk result (length bytes.now < 2 ^ 63) }
     {
         let contents = bytes.to_vec(alloc)?;
         Ok(Definition { function, contents })

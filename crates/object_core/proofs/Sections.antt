@@ -86,23 +86,6 @@ one_more sections longer sum name kind shared h e =
     in
     rw e all
 
-found_or_on : (b : Bool) (i : ℕ) (rest : Option ℕ) → cond b (Some i) rest ≡ None → (b ≡ false) × (rest ≡ None)
-found_or_on true i rest h = absurd (cc)
-found_or_on false i rest h = (refl, h)
-
-same_standard : (standard : StandardSection) → is_same_shared (Some standard) (Some standard) ≡ true
-same_standard standard = eq-eqb (standard_place standard) (standard_place standard) refl
-
-made_from : (test : SectionData → Bool) (sections : List SectionData) (new : SectionData) (i : ℕ) → test new ≡ true → position_from test i sections ≡ None → position_from test i (sections ++ new ∷ []) ≡ Some (i + length sections)
-made_from test [] new i p h = rw p (ap Some (omega arith))
-made_from test (s ∷ sections) new i p h =
-    let q = found_or_on (test s) i (position_from test (i + 1) sections) h in
-    rw (q.0, made_from test sections new (i + 1) p q.1) (ap Some (omega arith))
-
--- a standard section that was not used is the last one once it is made
-pub standard_made : (sections : List SectionData) (standard : StandardSection) → standard_at sections standard ≡ None → standard_at (sections ++ empty_standard standard ∷ []) standard ≡ Some (length sections)
-standard_made sections standard h = made_from (λ s. is_same_shared (Some standard) s.shared) sections (empty_standard standard) 0 (same_standard standard) h ∙ ap Some (omega arith)
-
 -- -- more contents
 
 pub more_contents : (sections : List SectionData) (sum k : ℕ) (s : SectionData) (bytes : List ℕ) (align : ℕ) → AreSections sections sum → k < length sections → s ≡ get_or sections k s → is_zero_fill s.kind ≡ false → is_power_of_two align ≡ true

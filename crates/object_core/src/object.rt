@@ -151,11 +151,10 @@ impl Object {
         Ok(id)
     }
 
-    #[tactic(auto, using(crate::proofs::Sections::standard_made))]
     /// The section of a standard section, which is made at its first use.
     pub fn section_id(&mut self, standard: StandardSection) -> Result<SectionId, AllocError>
         requires { (self.old).format ≡ Elf }
-        ensures id { IfOk result (λ id. standard_at (self.new).sections standard ≡ Some id) }
+        ensures id { IfOk result (λ id. id ≡ unwrap_or (standard_at (self.old).sections standard) (length (self.old).sections)) }
         ensures ok { OnOk result (self.new ≡ with_standard_section self.old standard) }
         ensures err { OnErr result (self.new ≡ self.old) }
     {

@@ -25,13 +25,13 @@ invariant_of-self-2 c =
     let marks : get_or c.self.inside.defined.items c.args.func_id false ≡ false =
     c.self.invariant.marking c.args.func_id ∙ ap (λ (o : OpenModule). is_defined o.state (Func c.args.func_id)) c.self.view_is ∙ sym c.is_defined-defined.ensures ∙ free
     in
-    kept_body _ _ _ _ c.args.func_id _ c.args.bytes.now c.self.invariant below marks c.in_ok-definition.ensures c.in_ok-push.ensures.items c.as_u32.ensures
+    kept_body _ _ _ _ c.args.func_id _ c.args.bytes.now c.self.invariant below marks c.in_ok-definition.ensures.small c.in_ok-definition.ensures.value c.in_ok-push.ensures.items c.as_u32.ensures
 
 pub returns : goal.returns
 returns c =
     let functions = ap (λ (o : OpenModule). o.state.functions) c.self.view_is in
     let made : c.push.new.self.items ≡ c.args.self.now.state.definitions ++ function_definition c.args.func_id c.args.bytes.now ∷ [] =
-    c.in_ok-push.ensures.items ∙ ap (λ (o : OpenModule). o.state.definitions ++ c.in_ok-definition.definition ∷ []) c.self.view_is ∙ ap (λ (d : Definition). c.args.self.now.state.definitions ++ d ∷ []) c.in_ok-definition.ensures
+    c.in_ok-push.ensures.items ∙ ap (λ (o : OpenModule). o.state.definitions ++ c.in_ok-definition.definition ∷ []) c.self.view_is ∙ ap (λ (d : Definition). c.args.self.now.state.definitions ++ d ∷ []) c.in_ok-definition.ensures.value
     in
     record {
       call =
