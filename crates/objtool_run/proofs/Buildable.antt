@@ -10,7 +10,7 @@ use Rattle.cranelift_module.specs.declared.linkage.Linkage.{Linkage}
 use Rattle.cranelift_object.specs.Commands.{IsPlainCall}
 use Rattle.image_build.specs.Built.{BuildPart, commands}
 use Rattle.image_build.specs.Parts.{IsBuildable, IsPlainPart}
-use Rattle.objtool_run.specs.Form.{◌>>=◌, with_keys, text_at, items_at, u32_at, hex_at, has_keys_within}
+use Rattle.objtool_run.specs.Form.{◌>>=◌, each_of, with_keys, text_at, items_at, u32_at, hex_at, has_keys_within}
 use Rattle.objtool_run.specs.Script.{linkage_of, declare_of, define_of, command_of, commands_of, part_of, part_with, one_part, parts_of, is_built, default_signature, HasFewCalls}
 
 -- what two steps give, the second gives of what the first gave
@@ -67,7 +67,7 @@ more_plain d rest cs later h = go (command_of d) refl rest refl h where
   go (Some c) e (Some more) f k = let same : (c ∷ more) ≡ cs = cc in subst (All IsPlainCall) same (All-cons IsPlainCall c more (command_plain d c e) (later more f))
 
 commands_plain : (ds : Items) (cs : List Call) → commands_of ds ≡ Some cs → All IsPlainCall cs
-unfolding commands_of
+unfolding each_of
 commands_plain no_items cs h = let same : [] ≡ cs = cc in subst (All IsPlainCall) same none_plain
 commands_plain (item d ds) cs h = more_plain d (commands_of ds) cs (λ r e. commands_plain ds r e) h
 

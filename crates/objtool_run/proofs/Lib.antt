@@ -1,7 +1,7 @@
 pub mod Taking
 pub mod OneWord
 pub mod Keys
-pub mod CommandList
+pub mod EachOf
 pub mod Distinct
 pub mod Built
 pub mod Judging

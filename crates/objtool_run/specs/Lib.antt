@@ -3,3 +3,4 @@ pub mod Fault
 pub mod Form
 pub mod Script
 pub mod Run
+pub mod SignatureForm

@@ -18,7 +18,7 @@ use Rattle.cranelift_module.specs.declared.linkage.Linkage.TheVariants.{Import, 
 use Rattle.cranelift_module.specs.Call.{Call, declare_function, declare_anonymous_function, declare_data, declare_anonymous_data, define_function, define_data}
 use Rattle.cranelift_module.specs.LibraryNames.{usual_texts}
 use Rattle.image_build.specs.Built.{BuildPart, commands}
-use Rattle.objtool_run.specs.Form.{◌>>=◌, text_at, items_at, u32_at, hex_at, with_keys}
+use Rattle.objtool_run.specs.Form.{◌>>=◌, each_of, text_at, items_at, u32_at, hex_at, with_keys}
 
 -- -- commands
 
@@ -55,9 +55,9 @@ command_of d = do
       else if bytes_eq op (codes "define_function") then define_of d
       else None
 
-unfoldable pub commands_of : Items → Option (List Call)
-commands_of no_items = Some []
-commands_of (item d ds) = command_of d >>= λ c. commands_of ds >>= λ cs. Some (c ∷ cs)
+-- the commands of a list
+abbrev pub commands_of : Items → Option (List Call)
+commands_of ds = each_of command_of ds
 
 -- -- the parts that are built so far
 

@@ -6,3 +6,4 @@ pub mod distinct;
 pub mod fields;
 pub mod form;
 pub mod part;
+pub mod signature;
