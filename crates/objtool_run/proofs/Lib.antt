@@ -2,8 +2,6 @@ pub mod Taking
 pub mod OneWord
 pub mod Keys
 pub mod EachOf
-pub mod Distinct
-pub mod Built
 pub mod Judging
 pub mod PartList
 pub mod Buildable

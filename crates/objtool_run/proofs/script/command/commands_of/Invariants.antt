@@ -8,4 +8,4 @@ use Rattle.objtool_run.proofs.script.command.commands_of.Given as goal
 
 -- the commands so far, and those of the rest, are all commands
 abbrev pub invariant-loop-value : goal.invariant-loop-value
-invariant-loop-value l = each_of command_of (items_view l.values) ≡ with_front (map command_view l.commands.items) (each_of command_of (items_view (drop l.value-index l.values)))
+invariant-loop-value l = each_of (command_of l.convention) (items_view l.values) ≡ with_front (map command_view l.commands.items) (each_of (command_of l.convention) (items_view (drop l.value-index l.values)))
