@@ -136,10 +136,11 @@ impl ObjectModule {
         ensures { OnOk result (object.new ≡ partial (self.now).settings (self.now).state (take (number + 1) (self.now).state.definitions)) }
     {
         let definition = &self.definitions[number];
-        let section = self.section_of(object)?;
-        let (symbol, _) = functions[definition.function().as_u32() as usize];
+        let function = definition.function().as_u32() as usize;
+        let contents = definition.contents();
         let align = self.builder.isa().symbol_alignment();
-        object.add_symbol_data(symbol, section, definition.contents(), align)?;
+        let section = self.section_of(object)?;
+        object.add_symbol_data(functions[function].0, section, contents, align)?;
         Ok(())
     }
 
