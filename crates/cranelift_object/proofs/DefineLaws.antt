@@ -3,7 +3,7 @@ use Rattle.std.proofs.Common.{◌≡◌, ◌≢◌, ℕ, zero, suc, ◌+◌, ◌
 use Rattle.std.proofs.lemmas.List.{append-nil, map-append, take_more, take_all, length-map}
 use Rattle.std.proofs.lemmas.List.Elements.{All-nil, All-push, All-take, All-map, All-append, All-weaker, All-get_or, All-head, All-tail, All-cons}
 use Rattle.std.proofs.lemmas.List.Sums.{sum_by-le}
-use Rattle.std.proofs.lemmas.List.FromFn.{length-enumerate_from, length-map-range_with_len, get_or-map-range_with_len}
+use Rattle.std.proofs.lemmas.List.FromFn.{length-enumerate_from, map-range_with_len_more, length-map-range_with_len, get_or-map-range_with_len}
 use Rattle.std.proofs.lemmas.Option.{slice_get_within, get_or_from_slice_get, slice_get-get_or, slice_get-map}
 use Rattle.std.proofs.lemmas.Bool.Decides.{eqb_tells}
 use Rattle.std.proofs.lemmas.Bool.{cases_Bool}
@@ -25,7 +25,7 @@ use Rattle.object_core.specs.Appending.{with_symbol, file_symbol, with_symbol_da
 use Rattle.cranelift_module.specs.declared.identifiers.FuncOrDataId.{FuncOrDataId}
 use Rattle.cranelift_module.specs.declared.identifiers.FuncOrDataId.TheVariants.{Func}
 use Rattle.cranelift_module.specs.Call.{bytes}
-use Rattle.cranelift_module.specs.Rows.{FunctionRow}
+use Rattle.cranelift_module.specs.Rows.{FunctionRow, DataRow}
 use Rattle.cranelift_module.specs.Definitions.{Definition, contents_of}
 use Rattle.cranelift_module.specs.LinkState.{LinkState}
 use Rattle.cranelift_module.specs.Refusal.{is_same_identifier, is_defined}
@@ -37,7 +37,7 @@ use Rattle.cranelift_object.specs.Placing.{Placed, share, sections_used, align_o
 use Rattle.cranelift_object.specs.Linked.{defined_at, identifier_symbol, function_symbol, symbol_place, object_of}
 use Rattle.cranelift_object.specs.Partial.{placed_of, partial, opened, number_behind}
 use Rattle.cranelift_object.proofs.ClassLaws.{placed_definitions, used-end}
-use Rattle.cranelift_object.specs.Product.{begun_object, with_function_section, function_section, function_mark, function_marks, symbol_number}
+use Rattle.cranelift_object.specs.Product.{begun_object, with_function_section, function_section, function_mark, function_marks, data_mark, data_marks, symbol_number, product_of}
 use Rattle.cranelift_object.proofs.OpenLaws.{opened_own, opened_shared, number_own, number_text}
 use Rattle.cranelift_object.proofs.SectionLaws.{apart_test}
 use Rattle.cranelift_object.proofs.ObjectLaws.{IsPlain, partial-end, partial_whole, section_there, section_at, All-slice_get}
@@ -388,3 +388,16 @@ marks_from s i (row ∷ rows) = rw (marks_from s (i + 1) rows) refl
 pub marks_whole : (s : LinkState) (n : ℕ) → n ≡ length s.functions → map (function_mark s) (range_with_len 0 n) ≡ function_marks s
 unfolding function_marks
 marks_whole s n e = ap (λ (k : ℕ). map (function_mark s) (range_with_len 0 k)) e ∙ sym (marks_from s 0 s.functions)
+
+pub marks_more : (s : LinkState) (k : ℕ) (rows new : List (ℕ × Bool)) (row : ℕ × Bool) → rows ≡ map (function_mark s) (range_with_len 0 k) → new ≡ rows ++ row ∷ [] → row ≡ function_mark s k → new ≡ map (function_mark s) (range_with_len 0 (k + 1))
+marks_more s k rows new row e f g =
+    f ∙ ap (λ (rs : List (ℕ × Bool)). rs ++ row ∷ []) e ∙ ap (λ (r : ℕ × Bool). map (function_mark s) (range_with_len 0 k) ++ r ∷ []) g ∙ sym (map-range_with_len_more (function_mark s) 0 k k (omega arith))
+
+-- there are no data objects
+pub no_data_marks : (o : OpenModule) (marks : List Bool) → IsModule o marks → [] ≡ data_marks o.state
+unfolding data_marks
+no_data_marks o marks h = sym (ap (λ (objects : List DataRow). map (λ (row : ℕ × DataRow). data_mark o.state row.0) (enumerate_from 0 objects)) h.no_objects)
+
+-- the product of a module
+pub product_is : (o : OpenModule) (marks : List Bool) (object : ObjectData) (rows : List (ℕ × Bool)) → IsModule o marks → object ≡ object_of o.settings o.state → rows ≡ function_marks o.state → record { object = object; functions = rows; data_objects = [] } ≡ product_of o.settings o.state
+product_is o marks object rows h e f = rw (e, f, no_data_marks o marks h) refl
