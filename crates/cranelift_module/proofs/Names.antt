@@ -1,11 +1,11 @@
 -- Names stay found when a declaration is added or changed.
-use Rattle.std.proofs.Common.{◌≡◌, ℕ, zero, suc, ◌<◌, ◌≤◌, get_or, length-append, arith, List, [], ◌∷◌, ◌++◌, length, Bool, true, false, cond, Option, Some, None, option_map, slice_get, Result, Ok, Err, OnOk, OnErr, refl, ap, sym, ◌∙◌, String, Global, string_bytes, bytes_eq}
+use Rattle.std.proofs.Common.{◌≡◌, ℕ, zero, suc, ◌+◌, ◌<◌, ◌≤◌, get_or, length-append, arith, List, [], ◌∷◌, ◌++◌, length, Bool, true, false, cond, Option, Some, None, slice_get, Result, Ok, Err, OnOk, OnErr, refl, ap, sym, ◌∙◌, String, Global, string_bytes, bytes_eq}
 use Rattle.std.specs.List.{find, position_from}
 use Rattle.std.specs.Map.{lookup}
 use Rattle.std.specs.Option.{option_or}
 use Rattle.std.specs.String.{string_cmp}
 use Rattle.std.specs.BTreeMap as tree
-use Rattle.std.specs.BTreeMap.{BTreeMap, get_by_text, UpdatesBy}
+use Rattle.std.specs.BTreeMap.{BTreeMap, get_by_text}
 use Rattle.std.specs.Cmp.Lexicographic.{slice_cmp}
 use Rattle.std.specs.Ordering.{nat_cmp}
 use Rattle.std.proofs.lemmas.Slice.Eq.{bytes_eq-Decides}
@@ -15,8 +15,8 @@ use Rattle.cranelift_module.specs.declared.identifiers.FuncOrDataId.{FuncOrDataI
 use Rattle.cranelift_module.specs.declared.identifiers.FuncOrDataId.TheVariants.{Func, Data}
 use Rattle.cranelift_module.specs.Rows.{FunctionRow, DataRow}
 use Rattle.cranelift_module.specs.LinkState.{is_function_named, is_data_named, is_same, raised_function}
-use Rattle.cranelift_module.specs.Declarations.{FindsNames, IsSound, function_found, data_found, changed_at}
-use Rattle.cranelift_module.specs.Refusal.{Refusal, function_clash, changes_signature, incompatible_declaration, incompatible_signature}
+use Rattle.cranelift_module.specs.Declarations.{FindsNames, IsSound, function_found, data_found, changed_at, numbered}
+use Rattle.cranelift_module.specs.Refusal.{function_clash, changes_signature, incompatible_declaration, incompatible_signature}
 use Rattle.cranelift_module.proofs.Places.{position-changed, position-append, find-at, find-none, any-at, any-none, position-below, length-changed}
 use Rattle.ir_core.specs.Signature.{SignatureData, is_same_signature}
 
@@ -174,3 +174,8 @@ changes-none name signature row e = rw e refl
 pub on_ok : {A E : Type 0} (result : Result A E) (P : Type 0) → P → OnOk result P
 on_ok (Ok a) P p = p
 on_ok (Err e) P p = tt
+
+-- each function has one number
+pub length-numbered : (n : ℕ) (rows : List FunctionRow) → length (numbered n rows) ≡ length rows
+length-numbered n [] = refl
+length-numbered n (row ∷ rows) = ap suc (length-numbered (n + 1) rows)

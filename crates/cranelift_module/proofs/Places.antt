@@ -1,5 +1,5 @@
 -- The place of the first element that passes a test.
-use Rattle.std.proofs.Common.{◌≡◌, ℕ, zero, suc, ◌+◌, ◌<◌, List, [], ◌∷◌, ◌++◌, length, slice_get, Bool, true, false, cond, Option, Some, None, is_some, option_map, get_or, refl, ap, sym, ◌∙◌, subst, arith, add-zero, zero-add}
+use Rattle.std.proofs.Common.{◌≡◌, ℕ, zero, suc, ◌+◌, ◌<◌, ◌≤◌, List, [], ◌∷◌, ◌++◌, length, slice_get, Bool, true, false, cond, Option, Some, None, is_some, option_map, Result, Ok, Err, OnOk, OnErr, get_or, refl, ap, sym, ◌∙◌, subst, arith, add-zero, zero-add}
 use Rattle.std.proofs.Math.ListN.{set}
 use Rattle.std.specs.List.{list_any, find, position_from}
 use Rattle.std.specs.Option.{option_or}
@@ -189,3 +189,17 @@ any-position t xs = go (place t xs) refl ∙ ap is_some (sym (position-place t x
   go : (o : Option ℕ) → place t xs ≡ o → list_any t xs ≡ is_some (place t xs)
   go None h = any-no_place t xs h ∙ ap is_some (sym h)
   go (Some k) h = any-place t xs k h ∙ ap is_some (sym h)
+
+-- a list that one element was changed in, or that has one more, is longer by one at most
+pub with_first-count : {A : Type 0} (t : A → Bool) (change : A → A) (new : A) (xs : List A) → length (with_first t change new xs) ≤ length xs + 1
+with_first-count t change new [] = omega arith
+with_first-count t change new (x ∷ xs) = go (t x) (with_first-count t change new xs) where
+  go : (b : Bool) → length (with_first t change new xs) ≤ length xs + 1 → length (cond b (change x ∷ xs) (x ∷ with_first t change new xs)) ≤ length (x ∷ xs) + 1
+  go true h = omega arith
+  go false h = omega arith
+
+-- the same of a call that changes nothing where it is refused
+pub with_first-count_of : {A B E : Type 0} (result : Result B E) (t : A → Bool) (change : A → A) (new : A) (xs ys : List A)
+    → OnOk result (ys ≡ with_first t change new xs) → OnErr result (ys ≡ xs) → length ys ≤ length xs + 1
+with_first-count_of (Ok b) t change new xs ys e k = rw e (with_first-count t change new xs)
+with_first-count_of (Err e) t change new xs ys d k = rw k (omega arith)

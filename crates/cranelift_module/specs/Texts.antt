@@ -1,5 +1,5 @@
 -- The printed texts of targets and refusals.
-use Rattle.std.specs.Prelude.{ℕ, ◌==◌, Bool, true, false, List, ◌++◌, codes, decimal, string_bytes}
+use Rattle.std.specs.Prelude.{◌≡◌, ℕ, ◌==◌, Bool, true, false, List, ◌++◌, codes, decimal, string_bytes}
 use Rattle.ir_core.specs.Names.{reloc_name, libcall_name, known_symbol_name}
 use Rattle.ir_core.specs.Signature.{signature_text}
 use Rattle.cranelift_module.specs.declared.identifiers.FuncOrDataId.{FuncOrDataId}
@@ -22,6 +22,16 @@ user_target (Data id) = User 1 id
 abbrev pub IsUser : ModuleRelocTarget → Type 0
 IsUser (User namespace index) = Unit {0}
 IsUser _ = ⊥
+
+-- the target is of namespace 0
+abbrev pub IsFunctionTarget : ModuleRelocTarget → Type 0
+IsFunctionTarget (User namespace index) = namespace ≡ 0
+IsFunctionTarget _ = ⊥
+
+-- the target is of namespace 1
+abbrev pub IsDataTarget : ModuleRelocTarget → Type 0
+IsDataTarget (User namespace index) = namespace ≡ 1
+IsDataTarget _ = ⊥
 
 -- a user's target is a function where its namespace is 0
 abbrev pub is_function_target : ModuleRelocTarget → Bool

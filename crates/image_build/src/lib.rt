@@ -4,6 +4,10 @@
 //! what the parts build, and an error names the part, the place and the first cause.
 #![tactic(auto)]
 
+mod build;
 mod error;
+mod part;
 
+pub use build::build_image;
 pub use error::{BuildCause, BuildError, Place};
+pub use part::Part;

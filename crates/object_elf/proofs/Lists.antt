@@ -98,3 +98,31 @@ flat_more f x left rest out new all e n a = rw (n, append_assoc) (rw e at a)
 
 pub flat_all : {X : Type 0} (f : X → List ℕ) (xs : List X) (i : ℕ) (out all : List ℕ) → length xs ≤ i → out ++ flat_map f (drop i xs) ≡ all → out ≡ all
 flat_all f xs i out all h a = sym (append-nil out) ∙ ap (λ left. out ++ flat_map f left) (sym (drop_all i xs h)) ∙ a
+
+-- no element counts for more than all
+pub one_of_sum : {X : Type 0} (f : X → ℕ) (xs : List X) (k : ℕ) (x : X) → slice_get xs k ≡ Some x → f x ≤ sum_by f xs
+one_of_sum f [] zero x e = absurd (cc)
+one_of_sum f [] (suc k) x e = absurd (cc)
+one_of_sum f (y ∷ xs) zero x e = let same : y ≡ x = cc in rw (← same) (omega (arith, sum_by-cons f y xs))
+one_of_sum f (y ∷ xs) (suc k) x e = omega (arith, sum_by-cons f y xs, one_of_sum f xs k x e)
+
+-- ---- an element of a filtered list
+
+-- it is one of the list, and it passes
+pub record Passing {X : Type 0} (p : X → Bool) (xs : List X) (x : X) : Type 0 where
+  pub place : ℕ
+  pub at : slice_get xs place ≡ Some x
+  pub passes : p x ≡ true
+
+passing_later : {X : Type 0} (p : X → Bool) (y : X) (xs : List X) (x : X) → Passing p xs x → Passing p (y ∷ xs) x
+passing_later p y xs x h = record { place = suc h.place; at = h.at; passes = h.passes }
+
+passing_past : {X : Type 0} (p : X → Bool) (y : X) (xs : List X) (b : Bool) → p y ≡ b → ((k : ℕ) (x : X) → slice_get (filter p xs) k ≡ Some x → Passing p xs x) → (k : ℕ) (x : X) → slice_get (cond b (y ∷ filter p xs) (filter p xs)) k ≡ Some x → Passing p (y ∷ xs) x
+passing_past p y xs true e later zero x h = let same : y ≡ x = cc in record { place = 0; at = ap (λ z. Some z) same; passes = ap p (sym same) ∙ e }
+passing_past p y xs true e later (suc k) x h = passing_later p y xs x (later k x h)
+passing_past p y xs false e later k x h = passing_later p y xs x (later k x h)
+
+pub passing : {X : Type 0} (p : X → Bool) (xs : List X) (k : ℕ) (x : X) → slice_get (filter p xs) k ≡ Some x → Passing p xs x
+passing p [] zero x h = absurd (cc)
+passing p [] (suc k) x h = absurd (cc)
+passing p (y ∷ xs) k x h = passing_past p y xs (p y) refl (passing p xs) k x h

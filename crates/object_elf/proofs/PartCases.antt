@@ -8,6 +8,7 @@ use Rattle.byte_core.specs.LaidOut.{Aligned}
 use Rattle.object_core.specs.LinkTable.{ElfTable, ElfTableSection}
 use Rattle.object_elf.specs.Layout.{Part, is_relocated, symbol_table_row, strings_size, section_names, symbol_names, content_part, note_part, relocation_part, relocation_name, symbol_part, string_part, parts_of}
 use Rattle.object_elf.specs.File.{section_contents, relocation_contents, symbol_contents, string_contents, contents_of}
+use Rattle.object_elf.specs.PartView.{part_name}
 use Rattle.object_elf.proofs.Lists.{get_left, get_right, get_append, get_map, get_map_from, get_filter}
 
 -- how many parts stand before the symbol table
@@ -191,9 +192,6 @@ pub contents_at_section_strings : (t : ElfTable) (n : ℕ) → front_count t + 2
 contents_at_section_strings t n m = contents_at_table t 2 n (string_contents (section_names t)) refl m
 
 -- ---- the names at these places
-
-abbrev pub part_name : Part → List ℕ
-part_name p = p.name
 
 relocation_names_past : (t : ElfTable) (m : ℕ) (s : ElfTableSection) (es : List (ℕ × ElfTableSection)) (ss : List ElfTableSection) (b : Bool) → map part_name (map (relocation_part t) es) ≡ map relocation_name ss
     → map part_name (map (relocation_part t) (cond b ((m, s) ∷ es) es)) ≡ map relocation_name (cond b (s ∷ ss) ss)

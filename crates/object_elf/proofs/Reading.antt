@@ -13,12 +13,13 @@ use Rattle.object_elf.specs.File.{elf_file}
 use Rattle.object_elf.specs.Fitting.{FitsElf, FitsSection, HasContents}
 use Rattle.object_elf.proofs.Lists.{get_exists, get_right}
 use Rattle.object_elf.proofs.Rows.{FitsHeader, header_stands}
-use Rattle.object_elf.proofs.PartCases.{front_count, part_name, PartCase, part_case, Relocates, length-parts_of, part_at_symbol_strings, part_at_section_strings}
+use Rattle.object_elf.specs.PartView.{part_name}
+use Rattle.object_elf.proofs.PartCases.{front_count, PartCase, part_case, Relocates, length-parts_of, part_at_symbol_strings, part_at_section_strings}
 use Rattle.object_elf.proofs.PartCases.PartCase.{is_content, is_note, is_relocations, is_symbols, is_symbol_strings, is_section_strings}
 use Rattle.object_elf.proofs.Places.{header_here, length-elf_file}
 use Rattle.object_elf.proofs.SectionRows.{section_row_here, PartHere, part_here}
 use Rattle.object_elf.proofs.Contents.{section_texts_stand}
-use Rattle.object_elf.proofs.Strings.{name_here, part_text, part_name_get}
+use Rattle.object_elf.proofs.Names.{name_here, part_text, part_name_get}
 
 header_fits : (t : ElfTable) → FitsElf t → FitsHeader (header_for t)
 header_fits t f = record {

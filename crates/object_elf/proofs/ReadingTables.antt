@@ -19,7 +19,7 @@ use Rattle.object_elf.proofs.Places.{length-elf_file}
 use Rattle.object_elf.proofs.SectionRows.{PartHere, part_here}
 use Rattle.object_elf.proofs.SymbolRows.{symbol_row_here}
 use Rattle.object_elf.proofs.Contents.{symbol_texts_stand, relocation_here}
-use Rattle.object_elf.proofs.Strings.{name_here}
+use Rattle.object_elf.proofs.Names.{name_here}
 use Rattle.object_elf.proofs.Reading.{RowOf, row_of, row_of_part, shnum_is, section_row_is, section_name_is, strings_row}
 
 -- ---- the types of the parts

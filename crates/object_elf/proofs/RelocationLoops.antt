@@ -12,7 +12,7 @@ use Rattle.object_core.specs.declared.relocation.Relocation.{Relocation}
 use Rattle.object_core.specs.declared.symbol.Symbol.{Symbol}
 use Rattle.object_core.specs.Object.{SectionData, is_local, is_global}
 use Rattle.object_core.specs.ElfRows.{row_in}
-use Rattle.object_elf.specs.Writing.{FitRecords, records_at, has_relocations, record_bytes_by}
+use Rattle.object_elf.specs.Writing.{contents_at, FitRecords, records_at, has_relocations, record_bytes_by}
 use Rattle.object_elf.proofs.Lists.{item_get, item_take, get_left, get_right}
 
 -- ---- the rows of symbols
@@ -105,3 +105,8 @@ none_there (x ∷ rs) e k r g = let never : true ≡ false = sym (ap not (eqb-su
 
 pub fit_none : (s : SectionData) → has_relocations s ≡ false → FitRecords s.relocations
 fit_none s e = none_there s.relocations e
+
+-- ---- contents of sections
+
+pub contents_next : (xs : List SectionData) (i : ℕ) (s : SectionData) → i < length xs → s ≡ get_or xs i s → map contents_at (take (i + 1) xs) ≡ map contents_at (take i xs) ++ contents_at s ∷ []
+contents_next xs i s h e = ap (map contents_at) (item_take xs i s h e) ∙ map-append contents_at (take i xs) (s ∷ [])

@@ -13,7 +13,8 @@ use Rattle.object_elf.specs.Fitting.{FitsElf, FitsSection, HasContents}
 use Rattle.object_elf.proofs.Lists.{get_within}
 use Rattle.object_elf.proofs.Rows.{FitsSectionRow, section_row_stands, length-section_row_bytes}
 use Rattle.object_elf.proofs.Parts.{FitsPart, fit_contents, fit_table}
-use Rattle.object_elf.proofs.PartCases.{front_count, part_name, PartCase, part_case, Relocates, names_of_parts, length-parts_of}
+use Rattle.object_elf.specs.PartView.{part_name}
+use Rattle.object_elf.proofs.PartCases.{front_count, PartCase, part_case, Relocates, names_of_parts, length-parts_of}
 use Rattle.object_elf.proofs.PartCases.PartCase.{is_content, is_note, is_relocations, is_symbols, is_symbol_strings, is_section_strings}
 use Rattle.object_elf.proofs.Places.{length-elf_file, rows_here, stands_in, StandsIn}
 

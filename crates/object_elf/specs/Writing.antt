@@ -1,16 +1,17 @@
 -- What the functions of the writer append, in the terms of an object.
-use Rattle.std.specs.Prelude.{◌≡◌, ℕ, ◌+◌, ◌*◌, ◌<◌, ◌≤◌, ◌^◌, Bool, true, List, [], ◌∷◌, ◌++◌, length, map, filter, flat_map, sum_by, slice_get, slice_index, not, ◌==◌, Some, FitsSigned, if◌then◌else◌}
+use Rattle.std.specs.Prelude.{◌≡◌, ℕ, ◌+◌, ◌*◌, ◌<◌, ◌≤◌, ◌^◌, Bool, true, false, List, [], ◌∷◌, ◌++◌, length, map, filter, flat_map, sum_by, slice_get, slice_index, not, ◌==◌, Some, FitsSigned, if◌then◌else◌}
 use Rattle.std.specs.Int.{w64}
 use Rattle.byte_core.specs.LaidOut.{Aligned}
 use Rattle.object_core.specs.declared.symbol.Symbol.{Symbol}
 use Rattle.object_core.specs.declared.relocation.Relocation.{Relocation}
-use Rattle.object_core.specs.Object.{SectionData, is_local, is_global, is_in_section}
+use Rattle.object_core.specs.Object.{SectionData, ObjectData, is_local, is_global, is_in_section}
+use Rattle.object_core.specs.Appending.{AreSections}
 use Rattle.object_core.specs.ElfRows.{elf_shndx, elf_symbol, elf_section, elf_relocation, elf_type_of, row_in}
 use Rattle.object_core.specs.LinkTable.{ElfTableSymbol, ElfTableSection}
-use Rattle.image_read.specs.ElfFile.{ElfRelocationRow}
+use Rattle.image_read.specs.ElfFile.{ElfHeader, ElfRelocationRow}
 use Rattle.object_elf.specs.Layout.{is_relocated, with_zero}
 use Rattle.object_elf.specs.ElfHolds.{record_for}
-use Rattle.object_elf.specs.File.{section_contents, relocation_contents, relocation_row_bytes}
+use Rattle.object_elf.specs.File.{symbol_contents, string_contents, section_contents, relocation_contents, relocation_row_bytes}
 
 -- -- symbols
 
@@ -93,3 +94,46 @@ records_at rows s = record { align = 8; bytes = record_bytes_by rows s.relocatio
 -- the bytes of the names of the local symbols, or of the others
 abbrev pub chosen_names : Bool → List Symbol → List ℕ
 chosen_names local symbols = flat_map with_zero (map (λ s. s.name) (chosen local symbols))
+
+-- -- the header
+
+-- the header of a file with this machine, these flags, section headers at this place and so many sections
+abbrev pub header_with : ℕ → ℕ → ℕ → ℕ → ElfHeader
+header_with machine flags start count =
+    record {
+      ident = 0x7f ∷ 0x45 ∷ 0x4c ∷ 0x46 ∷ 2 ∷ 1 ∷ 1 ∷ 0 ∷ 0 ∷ 0 ∷ 0 ∷ 0 ∷ 0 ∷ 0 ∷ 0 ∷ 0 ∷ [];
+      e_type = 1;
+      machine = machine;
+      version = 1;
+      entry = 0;
+      phoff = 0;
+      shoff = start;
+      flags = flags;
+      ehsize = 64;
+      phentsize = 0;
+      phnum = 0;
+      shentsize = 64;
+      shnum = count + 1;
+      shstrndx = count;
+    }
+
+-- the rows of symbols in the order of the table
+abbrev pub rows_in_order : List Symbol → List ElfTableSymbol
+rows_in_order symbols = map elf_symbol (filter is_local symbols ++ filter is_global symbols)
+
+abbrev pub row_names : List ElfTableSymbol → List (List ℕ)
+row_names rows = map (λ s. s.name) rows
+
+-- -- the whole
+
+-- what stands between the file header and the names of the sections
+abbrev pub body_of : ObjectData → List ℕ → List Aligned
+body_of o rows = map contents_at o.sections ++ map (records_at rows) (filter has_relocations o.sections) ++ symbol_contents (rows_in_order o.symbols) ∷ string_contents (row_names (rows_in_order o.symbols)) ∷ []
+
+-- the sections of an object are sound, and its numbers have room in their fields
+pub record NumbersFit (o : ObjectData) : Type 0 where
+  pub sections : AreSections o.sections o.content_sum
+  pub aligns : (k : ℕ) (s : SectionData) → slice_get o.sections k ≡ Some s → s.align < 2 ^ 64
+  pub records : (k : ℕ) (s : SectionData) → slice_get o.sections k ≡ Some s → FitRecords s.relocations
+  pub locals : FitSizes true o.symbols
+  pub others : FitSizes false o.symbols

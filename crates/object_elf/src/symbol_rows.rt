@@ -110,20 +110,8 @@ fn symbol_type(symbol: &Symbol) -> u8
         SymbolKind::Tls => 6,
         SymbolKind::File => 4,
         SymbolKind::Label => 0,
-        SymbolKind::Text => {
-            if is_in_section(symbol) {
-                2
-            } else {
-                0
-            }
-        }
-        SymbolKind::Data => {
-            if is_in_section(symbol) {
-                1
-            } else {
-                0
-            }
-        }
+        SymbolKind::Text => { if is_in_section(symbol) { 2 } else { 0 } }
+        SymbolKind::Data => { if is_in_section(symbol) { 1 } else { 0 } }
     }
 }
 

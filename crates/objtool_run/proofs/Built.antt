@@ -3,7 +3,7 @@ use Rattle.std.proofs.Common.{◌≡◌, ℕ, List, [], ◌∷◌, map, not, ◌
 use Rattle.std.specs.List.{list_any, filter_map}
 use Rattle.cranelift_module.specs.declared.linkage.Linkage.{Linkage}
 use Rattle.cranelift_object.specs.declared.command.Command.{Command}
-use Rattle.cranelift_object.specs.Command.{command_view}
+use Rattle.cranelift_object.specs.Commands.{command_view}
 use Rattle.objtool_run.specs.Script.{declared_name, declared_linkage, has_zero_byte, is_distinct, defines_import, is_built}
 
 any_of : {A B : Type 0} (test : B → Bool) (f : A → B) (xs : List A) → list_any (λ x. test (f x)) xs ≡ list_any test (map f xs)

@@ -9,7 +9,7 @@ use Rattle.objtool_run.specs.declared.script.form.FormError.{FormError}
 use Rattle.objtool_run.specs.declared.script.form.FormError.TheVariants.{NotForm, OutOfMemory}
 use Rattle.objtool_run.specs.Form.{Fails, ◌>>=◌}
 use Rattle.cranelift_module.specs.Call.{Call}
-use Rattle.cranelift_object.specs.Command.{command_view}
+use Rattle.cranelift_object.specs.Commands.{command_view}
 use Rattle.objtool_run.specs.Script.{command_of, commands_of}
 
 abbrev pub with_front : List Call → Option (List Call) → Option (List Call)

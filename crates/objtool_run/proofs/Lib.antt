@@ -5,3 +5,5 @@ pub mod CommandList
 pub mod Distinct
 pub mod Built
 pub mod Judging
+pub mod PartList
+pub mod Buildable

@@ -24,19 +24,3 @@ pub one_part_stopped : (vs : List Value) (v : Value) → length vs ≡ 1 → v �
 one_part_stopped [] v h e p = absurd (omega arith)
 one_part_stopped (w ∷ []) v h e p = rw (← e, p) refl
 one_part_stopped (w ∷ x ∷ vs) v h e p = absurd (omega arith)
-
--- -- commands of the form are plain
-
--- what a step gives, it gives of what the step before gave
-given : {A B : Type 0} (o : Option A) (f : A → Option B) (y : B) → (o >>= f) ≡ Some y → (x : A) × (o ≡ Some x) × (f x ≡ Some y)
-given None f y h = absurd (cc)
-given (Some x) f y h = (x, refl, h)
-
-tested : {A : Type 0} (b : Bool) (o : Option A) (y : A) → cond b o None ≡ Some y → o ≡ Some y
-tested true o y h = h
-tested false o y h = absurd (cc)
-
-declare_plain : (d : Data) (c : Call) → declare_of d ≡ Some c → IsPlainCall c
-unfolding declare_of
-declare_plain d c h =
-    let (name, e, after) = given (text_at (codes "name") d) _ c (tested (has_keys_within (codes "op" ∷ codes "name" ∷ codes "linkage" ∷ []) d) _ c h) in ?

@@ -87,3 +87,9 @@ pub record Judges (input : List ℕ) (status : ℕ) : Type 0 where
   pub other : HasOtherForm input → status ≡ 8
   pub refused : (parts : List BuildPart) (r : BuildRefusal) → StandsFor input parts → build_cause parts ≡ Some r → status ≡ 1
   pub valid : (parts : List BuildPart) → StandsFor input parts → build_cause parts ≡ None → (status ≡ 0) ⊎ (status ≡ 4)
+
+-- the fault of a refused build: its text, but for want of memory, which no text names
+abbrev pub TellsRefusal : BuildError → Fault → Type 0
+TellsRefusal error (Refused text) = (error.cause ≢ causes.OutOfMemory) × (string_bytes text ≡ line (build_text error))
+TellsRefusal error OutOfMemory = Unit {0}
+TellsRefusal error _ = ⊥

@@ -1,5 +1,5 @@
 -- The list of parts that a JSON value stands for.
-use Rattle.std.specs.Prelude.{◌≡◌, ℕ, ◌==◌, ◌&&◌, Bool, true, false, not, List, [], ◌∷◌, length, slice_get, codes, if◌then◌else◌, Option, Some, None}
+use Rattle.std.specs.Prelude.{◌≡◌, ℕ, ◌<◌, ◌==◌, ◌&&◌, Bool, true, false, not, List, [], ◌∷◌, length, slice_get, codes, if◌then◌else◌, Option, Some, None}
 use Rattle.std.specs.List.{list_any, list_all, filter_map}
 use Rattle.std.specs.Str.{bytes_eq, IsUtf8}
 use Rattle.serde_json.specs.Data.{Data, Items, no_items, item}
@@ -161,3 +161,8 @@ HasOtherForm input = (d : Data) × HasJson input d × (parts_of d ≡ None)
 -- the input stands for these parts
 abbrev pub StandsFor : List ℕ → List BuildPart → Type 0
 StandsFor input parts = (d : Data) × HasJson input d × (parts_of d ≡ Some parts)
+
+-- the parts have fewer commands than there are identifiers
+abbrev pub HasFewCalls : List BuildPart → Type 0
+HasFewCalls [] = Unit {0}
+HasFewCalls (commands part ∷ parts) = (length part.calls < 4294967295) × HasFewCalls parts

@@ -5,3 +5,4 @@ pub mod command;
 pub mod distinct;
 pub mod fields;
 pub mod form;
+pub mod part;

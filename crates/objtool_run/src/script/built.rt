@@ -2,7 +2,7 @@
 
 ghost use Rattle.std.specs.Prelude.{◌≡◌, ◌&&◌, not, map, IfOk};
 ghost use Rattle.std.specs.List.{list_any, filter_map};
-ghost use Rattle.cranelift_object.specs.Command.{command_view};
+ghost use Rattle.cranelift_object.specs.Commands.{command_view};
 ghost use Rattle.objtool_run.specs.Script.{declared_name, declared_linkage, has_zero_byte, defines_import, is_built};
 
 use crate::script::distinct::is_distinct;

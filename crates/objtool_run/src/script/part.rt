@@ -6,7 +6,7 @@ ghost use Rattle.serde_json.specs.View.{view, items_view};
 ghost use Rattle.cranelift_object.specs.Commands.{command_view};
 ghost use Rattle.image_build.specs.Parts.{part_view, IsBuildable};
 ghost use Rattle.objtool_run.specs.Form.{Gives};
-ghost use Rattle.objtool_run.specs.Script.{part_of, part_with, parts_of, commands_of, StandsFor};
+ghost use Rattle.objtool_run.specs.Script.{part_of, part_with, parts_of, commands_of, StandsFor, HasFewCalls};
 ghost use Rattle.objtool_run.specs.Run.{Explains, IsOfInput};
 
 use crate::fault::Fault;
@@ -45,7 +45,8 @@ fn part_with(alloc: Global, name: &str, commands: Vec<Command>) -> Result<Part, 
 /// The part that an object stands for.
 #[tactic(auto, unfolding(crate::specs::Script::part_of))]
 fn part_of(alloc: Global, value: &Value) -> Result<Part, FormError>
-    ensures { Gives part_view result (part_of (view value.now)) }
+    ensures form { Gives part_view result (part_of (view value.now)) }
+    ensures few { IfOk result (λ part. HasFewCalls (part_view part ∷ [])) }
 {
     if !has_keys_within(value, &["name", "arch", "format", "commands"]) {
         return Err(FormError::NotForm);

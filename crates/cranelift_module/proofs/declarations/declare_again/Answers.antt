@@ -1,8 +1,7 @@
-use Rattle.std.proofs.Common.{◌≡◌, ◌<◌, ◌∙◌, ap, sym, Some, option_map, length, refl, rules, arith, subst}
+use Rattle.std.proofs.Common.{◌<◌, ◌∙◌, ap, sym, Some, option_map, length, refl, rules}
 use Rattle.std.specs.List.{position_from}
 use Rattle.cranelift_module.specs.Rows.{FunctionRow}
 use Rattle.cranelift_module.specs.LinkState.{is_function_named, raised_function}
-use Rattle.cranelift_module.specs.Declarations.{changed_at}
 use Rattle.cranelift_module.proofs.Places.{set-changed, slice_get-set, position-below, position-changed, with_first-at}
 use Rattle.cranelift_module.proofs.Names.{changes-at, changes-refused, changes-none}
 use Rattle.ir_core.specs.Signature.{SignatureData, is_same_signature}

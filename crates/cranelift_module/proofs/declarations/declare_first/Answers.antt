@@ -1,5 +1,5 @@
 use Rattle.std.proofs.Common.{◌≡◌, ◌++◌, ◌∷◌, [], ◌∙◌, ap, sym, refl, Some, option_map, length, rules}
-use Rattle.std.specs.List.{position_from, slice_get}
+use Rattle.std.specs.List.{position_from}
 use Rattle.cranelift_module.specs.Rows.{FunctionRow}
 use Rattle.cranelift_module.specs.LinkState.{is_function_named, raised_function}
 use Rattle.cranelift_module.proofs.Places.{with_first-new, slice_get-last}

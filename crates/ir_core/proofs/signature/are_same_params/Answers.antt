@@ -1,4 +1,4 @@
-use Rattle.std.proofs.Common.{◌∙◌, ◌≡◌, refl, rules}
+use Rattle.std.proofs.Common.{◌∙◌, ◌≡◌, rules}
 use Rattle.ir_core.specs.declared.signature.AbiParam.{AbiParam}
 use Rattle.ir_core.specs.Signature.{is_same_param}
 use Rattle.ir_core.specs.contracts.signature.AbiParamPartialEq.TheImpl.{ghosts}

@@ -15,7 +15,7 @@ pub loop-relocation-preserved : goal.loop-relocation-preserved
 loop-relocation-preserved c = record {
   records =
       flat_more (λ (r : Relocation). relocation_row_bytes (record_by c.args.rows.now r)) c.relocation-item.result _ _ _ _ _ (item_drop c.args.relocations.now c.loop-relocation.relocation-index c.relocation-item.result c.loop-relocation-test.true c.relocation-item.is)
-        (c.in_ok-push_record.ensures.record c.args.rows.now (ap (λ n. get_or c.args.rows.now n 0) (sym c.as_number.ensures))) c.loop-relocation.invariant.records;
+      (c.in_ok-push_record.ensures.record c.args.rows.now (ap (λ n. get_or c.args.rows.now n 0) (sym c.as_number.ensures))) c.loop-relocation.invariant.records;
   fit = each_more FitsRecord c.args.relocations.now c.loop-relocation.relocation-index c.relocation-item.result c.loop-relocation-test.true c.relocation-item.is c.loop-relocation.invariant.fit c.in_ok-push_record.ensures.fits;
 }
 

@@ -23,7 +23,7 @@ loop-section-preserved-then-is_empty c =
 pub push_records-requires : goal.push_records-requires
 push_records-requires c =
     rw c.relocations-in-loop-section.ensures
-      (c.requires c.loop-section.section-index c.section-item.result (item_get c.args.sections.now c.loop-section.section-index c.section-item.result c.loop-section-test.true c.section-item.is))
+    (c.requires c.loop-section.section-index c.section-item.result (item_get c.args.sections.now c.loop-section.section-index c.section-item.result c.loop-section-test.true c.section-item.is))
 
 pub loop-section-preserved : goal.loop-section-preserved
 loop-section-preserved c =

@@ -1,7 +1,4 @@
-use Rattle.std.proofs.Common.{◌≡◌, ◌<◌, ◌∙◌, sym, ap, refl, Some, None, length, rules}
-use Rattle.std.specs.BTreeMap.{get_by_text}
-use Rattle.cranelift_module.specs.declared.identifiers.FuncOrDataId.TheVariants.{Func, Data}
-use Rattle.cranelift_module.specs.LinkState.{is_function_named, raised_function}
+use Rattle.std.proofs.Common.{◌<◌, ◌∙◌, sym, ap, refl, Some, length, rules}
 use Rattle.cranelift_module.proofs.Names.{IsSound-first, IsSound-again, found_function, found_data, found_nothing, clash-function, clash-data, clash-none, on_ok}
 use Rattle.cranelift_module.proofs.declarations.ModuleDeclarations.declare_function.Goals as goal
 

@@ -1,4 +1,4 @@
-use Rattle.std.proofs.Common.{◌∙◌, ap, refl, string_bytes}
+use Rattle.std.proofs.Common.{◌∙◌, refl, string_bytes}
 use Rattle.std.proofs.lemmas.List.{map-set}
 use Rattle.cranelift_module.proofs.libcall_names.LibcallNames.set.Goals as goal
 

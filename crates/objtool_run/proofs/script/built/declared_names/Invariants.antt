@@ -1,6 +1,6 @@
 use Rattle.std.proofs.Common.{◌≡◌, ◌++◌, map, drop}
 use Rattle.std.specs.List.{filter_map}
-use Rattle.cranelift_object.specs.Command.{command_view}
+use Rattle.cranelift_object.specs.Commands.{command_view}
 use Rattle.objtool_run.specs.Script.{declared_name}
 use Rattle.objtool_run.proofs.script.built.declared_names.Given as goal
 

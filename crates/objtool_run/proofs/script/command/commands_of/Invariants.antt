@@ -1,6 +1,6 @@
 use Rattle.std.proofs.Common.{◌≡◌, drop, map}
 use Rattle.serde_json.specs.View.{items_view}
-use Rattle.cranelift_object.specs.Command.{command_view}
+use Rattle.cranelift_object.specs.Commands.{command_view}
 use Rattle.objtool_run.specs.Script.{commands_of}
 use Rattle.objtool_run.proofs.CommandList.{with_front}
 use Rattle.objtool_run.proofs.script.command.commands_of.Given as goal

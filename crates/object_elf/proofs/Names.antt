@@ -9,7 +9,8 @@ use Rattle.object_elf.specs.Layout.{Part, with_zero, string_bytes_of, strings_si
 use Rattle.object_elf.specs.Fitting.{FitsElf, FitsSection, IsText}
 use Rattle.object_elf.proofs.Lists.{get_map}
 use Rattle.object_elf.proofs.Parts.{length-with_zeros, length-string_bytes_of}
-use Rattle.object_elf.proofs.PartCases.{part_name, names_of_parts, PartCase, part_case, Relocates}
+use Rattle.object_elf.specs.PartView.{part_name}
+use Rattle.object_elf.proofs.PartCases.{names_of_parts, PartCase, part_case, Relocates}
 use Rattle.object_elf.proofs.PartCases.PartCase.{is_content, is_note, is_relocations, is_symbols, is_symbol_strings, is_section_strings}
 
 name_stands : (names : List (List ℕ)) (k : ℕ) (name : List ℕ) → slice_get names k ≡ Some name → StandsAt (string_bytes_of names) (with_zero name) (name_place names k)

@@ -1,0 +1,68 @@
+-- Answers that are judged by the limits.
+use Rattle.std.proofs.Common.{◌≡◌, ℕ, ◌<◌, ◌≤◌, ◌^◌, refl, ap, sym, ◌∙◌, arith, Bool, true, false, cond, Option, Some, None, Result, Ok, Err}
+use Rattle.std.specs.Prelude.{nat_le, IfErr, OnOk, IfSome}
+use Rattle.std.specs.Option.{option_or}
+use Rattle.std.proofs.lemmas.Bool.{leb-false}
+use Rattle.object_core.specs.declared.error.EmitError.{EmitError}
+use Rattle.object_core.specs.declared.error.EmitError.TheVariants.{TooMany, TooLarge, OutOfMemory}
+use Rattle.object_core.specs.declared.error.What.TheVariants.{Sections, Symbols, Contents, Names}
+use Rattle.object_core.specs.Object.{ObjectData}
+use Rattle.object_core.specs.ElfRows.{elf_table_of}
+use Rattle.object_elf.specs.Counts.{Counts, elf_counts}
+use Rattle.object_elf.specs.Limits.{limit_if, limit_cause, TellsLimit}
+use Rattle.object_elf.specs.PlainCounts.{IsJudged, IsWithinLimits, plain_counts}
+use Rattle.object_elf.proofs.Tables.{counts_are}
+
+-- -- what no limit means
+
+below_by : (bound n : ℕ) (e : EmitError) (b : Bool) → nat_le bound n ≡ b → cond b (Some e) None ≡ None → n < bound
+below_by bound n e true t h = absurd (cc)
+below_by bound n e false t h = leb-false bound n t
+
+below : (bound n : ℕ) (e : EmitError) → limit_if bound n e ≡ None → n < bound
+below bound n e h = below_by bound n e (nat_le bound n) refl h
+
+first_none : (a b : Option EmitError) → option_or a b ≡ None → a ≡ None
+first_none None b h = refl
+first_none (Some e) b h = absurd (cc)
+
+rest_none : (a b : Option EmitError) → option_or a b ≡ None → b ≡ None
+rest_none None b h = h
+rest_none (Some e) b h = absurd (cc)
+
+pub within_limits : (c : Counts) → limit_cause c ≡ None → IsWithinLimits c
+within_limits c h =
+    let sections = limit_if 65280 c.sections (TooMany Sections c.sections) in
+    let symbols = limit_if (2 ^ 32) c.symbols (TooMany Symbols c.symbols) in
+    let contents = limit_if (2 ^ 63) c.contents (TooLarge Contents c.contents) in
+    let names = limit_if (2 ^ 32) c.names (TooLarge Names c.names) in
+    let h1 = rest_none sections (option_or symbols (option_or contents names)) h in
+    let h2 = rest_none symbols (option_or contents names) h1 in
+    record {
+      sections = below 65280 c.sections (TooMany Sections c.sections) (first_none sections (option_or symbols (option_or contents names)) h);
+      symbols = below (2 ^ 32) c.symbols (TooMany Symbols c.symbols) (first_none symbols (option_or contents names) h1);
+      contents = below (2 ^ 63) c.contents (TooLarge Contents c.contents) (first_none contents names h2);
+      names = below (2 ^ 32) c.names (TooLarge Names c.names) (rest_none contents names h2);
+    }
+
+-- -- answers
+
+abbrev refusal : (A : Type 0) → EmitError → Result A EmitError
+refusal A e = Err e
+
+told_as : (A B : Type 0) (e : EmitError) (cause : Option EmitError) → IfSome cause (λ x. refusal A e ≡ Err x) → IfSome cause (λ x. refusal B e ≡ Err x)
+told_as A B e None h = tt
+told_as A B e (Some x) h = let same : e ≡ x = cc in ap (λ y. Err y) same
+
+-- a refusal that is handed on
+pub judged_err : {A B : Type 0} (r : Result B EmitError) (e : EmitError) (c : Counts) (cause : Option EmitError) → r ≡ Err e → IsJudged {A = A} (Err e) c cause → IsJudged {A = B} r c cause
+judged_err {A} {B} r e c cause same j = rw same (record { ok = tt; err = j.err; told = λ h. told_as A B e cause (j.told h) })
+
+pub judged_memory : {A : Type 0} (r : Result A EmitError) (e : EmitError) (c : Counts) (cause : Option EmitError) → r ≡ Err e → e ≡ OutOfMemory → cause ≡ None → IsJudged {A = A} r c cause
+judged_memory {A} r e c cause same memory none = rw (same, memory, none) (record { ok = tt; err = tt; told = λ h. tt })
+
+pub judged_ok : {A : Type 0} (x : A) (c : Counts) (cause : Option EmitError) → cause ≡ None → IsJudged {A = A} (Ok x) c cause
+judged_ok {A} x c cause none = rw none (record { ok = refl; err = tt; told = λ h. tt })
+
+pub judged_as : {A : Type 0} (r : Result A EmitError) (o : ObjectData) → IsJudged {A = A} r (plain_counts o) (limit_cause (plain_counts o)) → IsJudged {A = A} r (elf_counts (elf_table_of o) o.content_sum) (limit_cause (elf_counts (elf_table_of o) o.content_sum))
+judged_as {A} r o j = rw (counts_are o) j

@@ -1,0 +1,112 @@
+//! The limits of the format, which are this project's own choice.
+
+ghost use Rattle.std.specs.Prelude.{◌≡◌, ◌+◌, ◌<◌, ◌≤◌, ◌^◌, length, count_by, sum_by};
+ghost use Rattle.object_elf.specs.Writing.{has_relocations};
+ghost use Rattle.object_elf.specs.Limits.{limit_cause};
+ghost use Rattle.object_elf.specs.PlainCounts.{plain_counts, symbol_name_size, section_name_size, IsJudged};
+
+use object_core::{EmitError, Object, Section, Symbol, What};
+
+const SECTIONS: u128 = 65_280;
+
+const SYMBOLS: u64 = 1 << 32;
+
+const CONTENTS: u128 = 1 << 63;
+
+const NAMES: u128 = 1 << 32;
+
+/// The first limit that the object reaches. It takes no memory.
+pub(crate) fn check_limits(object: &Object) -> Result<(), EmitError>
+    ensures { IsJudged result (plain_counts object.now) (limit_cause (plain_counts object.now)) }
+{
+    let sections = object.sections();
+    let symbols = object.symbols();
+    let rows = sections.len() as u128 + relocated_count(sections) as u128 + 5;
+    if rows >= SECTIONS {
+        return Err(too_many_sections(rows));
+    }
+    let count = symbols.len() as u64 + 1;
+    if count >= SYMBOLS {
+        let what = What::Symbols;
+        return Err(EmitError::TooMany { what, count });
+    }
+    let amount = object.content_sum();
+    if amount >= CONTENTS {
+        let what = What::Contents;
+        return Err(EmitError::TooLarge { what, amount });
+    }
+    let amount = symbol_names_size(symbols) + section_names_size(sections);
+    if amount >= NAMES {
+        let what = What::Names;
+        return Err(EmitError::TooLarge { what, amount });
+    }
+    Ok(())
+}
+
+/// So many section headers are too many.
+fn too_many_sections(rows: u128) -> EmitError
+    ensures told { rows < 2 ^ 64 → result ≡ EmitError.TooMany What.Sections rows }
+    ensures none { 2 ^ 64 ≤ rows → result ≡ EmitError.OutOfMemory }
+{
+    match u64::try_from(rows) {
+        Ok(count) => EmitError::TooMany {
+            what: What::Sections,
+            count,
+        },
+        Err(_) => EmitError::OutOfMemory,
+    }
+}
+
+/// How many sections have relocations.
+pub(crate) fn relocated_count(sections: &[Section]) -> usize
+    ensures { result ≡ count_by has_relocations sections.now }
+{
+    sections
+        .iter()
+        .filter(|section| has_relocations(section))
+        .count()
+}
+
+pub(crate) fn has_relocations(section: &Section) -> bool
+    ensures { result ≡ has_relocations section.now }
+{
+    !section.relocations().is_empty()
+}
+
+/// The bytes of the string section of the symbols.
+pub(crate) fn symbol_names_size(symbols: &[Symbol]) -> u128
+    requires { length symbols.now < 2 ^ 32 }
+    ensures value { result ≡ 1 + sum_by symbol_name_size symbols.now }
+    ensures bound { result < 2 ^ 97 }
+{
+    let mut size = 1;
+    for symbol in symbols {
+        size += symbol.name.as_slice().len() as u128 + 1;
+    }
+    size
+}
+
+/// The bytes of the string section of the sections.
+pub(crate) fn section_names_size(sections: &[Section]) -> u128
+    requires { length sections.now < 65280 }
+    ensures value { result ≡ 43 + sum_by section_name_size sections.now }
+    ensures bound { result < 2 ^ 97 }
+{
+    let mut size = 43;
+    for section in sections {
+        size += section_name_size(section);
+    }
+    size
+}
+
+fn section_name_size(section: &Section) -> u128
+    ensures value { result ≡ section_name_size section.now }
+    ensures bound { result < 2 ^ 66 }
+{
+    let name = section.name().len() as u128;
+    if has_relocations(section) {
+        name + 1 + (name + 6)
+    } else {
+        name + 1
+    }
+}
