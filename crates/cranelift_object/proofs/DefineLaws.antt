@@ -1,13 +1,14 @@
 -- What one definition of a module adds to its object.
 use Rattle.std.proofs.Common.{◌≡◌, ◌≢◌, ℕ, zero, suc, ◌+◌, ◌*◌, ◌==◌, ◌||◌, ◌<◌, ◌≤◌, ◌^◌, ◌++◌, ◌∷◌, length-take, List, [], Bool, true, false, cond, max, length, map, take, get_or, Option, Some, None, refl, ap, sym, ◌∙◌, subst, arith, inl, inr, eq-eqb, length-append, append_assoc}
-use Rattle.std.proofs.lemmas.List.{append-nil, map-append, take_more}
+use Rattle.std.proofs.lemmas.List.{append-nil, map-append, take_more, take_all, length-map}
 use Rattle.std.proofs.lemmas.List.Elements.{All-nil, All-push, All-take, All-map, All-append, All-weaker, All-get_or, All-head, All-tail, All-cons}
 use Rattle.std.proofs.lemmas.List.Sums.{sum_by-le}
-use Rattle.std.proofs.lemmas.List.FromFn.{length-map-range_with_len, get_or-map-range_with_len}
+use Rattle.std.proofs.lemmas.List.FromFn.{length-enumerate_from, map-range_with_len_more, length-map-range_with_len, get_or-map-range_with_len}
 use Rattle.std.proofs.lemmas.Option.{slice_get_within, get_or_from_slice_get, slice_get-get_or, slice_get-map}
 use Rattle.std.proofs.lemmas.Bool.Decides.{eqb_tells}
+use Rattle.std.proofs.lemmas.Bool.{cases_Bool}
 use Rattle.std.specs.Prelude.{slice_get, option_map, find, sum_by}
-use Rattle.std.specs.List.{All, list_any, range_with_len}
+use Rattle.std.specs.List.{All, list_any, range_with_len, position_or_len, enumerate_from}
 use Rattle.std.specs.Int.{is_power_of_two}
 use Rattle.std.proofs.Math.Nat.{mul-le-mul_right}
 use lib.Count.{ones}
@@ -20,13 +21,14 @@ use Rattle.object_core.specs.Standard.{is_zero_fill}
 use Rattle.object_core.specs.declared.symbol.Symbol.{Symbol}
 use Rattle.object_core.specs.declared.kinds.SymbolSection.{SymbolSection}
 use Rattle.object_core.specs.Object.{SectionData, ObjectData}
-use Rattle.object_core.specs.Appending.{with_symbol_data, IsUndefined, HasBytes}
+use Rattle.object_core.specs.Appending.{with_symbol, file_symbol, with_symbol_data, IsUndefined, HasBytes}
 use Rattle.cranelift_module.specs.declared.identifiers.FuncOrDataId.{FuncOrDataId}
 use Rattle.cranelift_module.specs.declared.identifiers.FuncOrDataId.TheVariants.{Func}
-use Rattle.cranelift_module.specs.Rows.{FunctionRow}
+use Rattle.cranelift_module.specs.Call.{bytes}
+use Rattle.cranelift_module.specs.Rows.{FunctionRow, DataRow}
 use Rattle.cranelift_module.specs.Definitions.{Definition, contents_of}
 use Rattle.cranelift_module.specs.LinkState.{LinkState}
-use Rattle.cranelift_module.specs.Refusal.{is_same_identifier}
+use Rattle.cranelift_module.specs.Refusal.{is_same_identifier, is_defined}
 use Rattle.cranelift_object.specs.Settings.{Settings}
 use Rattle.cranelift_object.specs.Opened.{OpenModule, function_definition}
 use Rattle.cranelift_object.specs.Kept.{IsModule, IsBody, IsFirst}
@@ -35,6 +37,9 @@ use Rattle.cranelift_object.specs.Placing.{Placed, share, sections_used, align_o
 use Rattle.cranelift_object.specs.Linked.{defined_at, identifier_symbol, function_symbol, symbol_place, object_of}
 use Rattle.cranelift_object.specs.Partial.{placed_of, partial, opened, number_behind}
 use Rattle.cranelift_object.proofs.ClassLaws.{placed_definitions, used-end}
+use Rattle.cranelift_object.specs.Product.{begun_object, with_function_section, function_section, function_mark, function_marks, data_mark, data_marks, symbol_number, product_of}
+use Rattle.cranelift_object.proofs.OpenLaws.{opened_own, opened_shared, number_own, number_text}
+use Rattle.cranelift_object.proofs.SectionLaws.{apart_test}
 use Rattle.cranelift_object.proofs.ObjectLaws.{IsPlain, partial-end, partial_whole, section_there, section_at, All-slice_get}
 
 -- -- definitions of a module
@@ -227,3 +232,172 @@ opened_sum o marks j d h few =
     let bound : length ds ≤ 9223372036854775807 = omega arith in
     let product = mul-le-mul_right 9223372036854775812 bound in
     omega (arith, sum, product)
+
+-- -- the section of one more function, by what an object offers
+
+taken_true : {A : Type 0} (b : Bool) (x y : A) → b ≡ true → cond b x y ≡ x
+taken_true true x y h = refl
+taken_true false x y h = absurd (cc)
+
+taken_false : {A : Type 0} (b : Bool) (x y : A) → b ≡ false → cond b x y ≡ y
+taken_false true x y h = absurd (cc)
+taken_false false x y h = refl
+
+pub function_opened : (settings : Settings) (s : LinkState) (ds : List Definition) (function : ℕ) (contents : List ℕ) → opened settings s ds (function_definition function contents) ≡ with_function_section settings (partial settings s ds)
+function_opened settings s ds function contents =
+    elim (cases_Bool settings.function_sections) [
+      | inl own ↦ opened_own settings s ds function contents own ∙ sym (taken_true settings.function_sections _ _ own)
+      | inr shared ↦ opened_shared settings s ds function contents shared ∙ sym (taken_false settings.function_sections _ _ shared)
+    ]
+
+pub function_number : (settings : Settings) (s : LinkState) (ds : List Definition) (function : ℕ) (contents : List ℕ) → function_section settings (partial settings s ds) ≡ number_behind settings s ds (function_definition function contents)
+function_number settings s ds function contents =
+    elim (cases_Bool settings.function_sections) [
+      | inl own ↦ taken_true settings.function_sections _ _ own ∙ sym (number_own settings s ds function contents own)
+      | inr shared ↦ taken_false settings.function_sections _ _ shared ∙ number_text settings s ds function contents shared
+    ]
+
+-- -- a definition in hand
+
+-- the definition of this number is this body of a declared function
+pub record IsAdding (o : OpenModule) (number function : ℕ) (contents : List ℕ) : Type 0 where
+  pub found : slice_get o.state.definitions number ≡ Some (function_definition function contents)
+  pub declared : function < length o.state.functions
+
+pub adding : (o : OpenModule) (marks : List Bool) (number function : ℕ) (xs : List ℕ) (d : Definition) → IsModule o marks → number < length o.state.definitions → d ≡ get_or o.state.definitions number d → d.identifier ≡ Func function → d.contents ≡ bytes xs → IsAdding o number function xs
+adding o marks number function xs d h below at named holds =
+    let there : slice_get o.state.definitions number ≡ Some d = slice_get-get_or o.state.definitions number d below ∙ ap Some (sym at) in
+    let body = All-slice_get (IsBody (length o.state.functions)) o.state.definitions number d h.bodies there in
+    let same : Func body.function ≡ Func function = sym (ap (λ (x : Definition). x.identifier) body.is) ∙ named in
+    let equal : body.function ≡ function = cc in
+    let whole : bytes body.contents ≡ bytes xs = sym (ap (λ (x : Definition). x.contents) body.is) ∙ holds in
+    let contents : body.contents ≡ xs = cc in
+    record { found = there ∙ ap Some body.is ∙ ap (λ (f : ℕ). Some (function_definition f body.contents)) equal ∙ ap (λ (ys : List ℕ). Some (function_definition function ys)) contents; declared = rw (← equal) body.declared }
+
+-- -- the symbols of functions
+
+place_in_range : (k a n t : ℕ) → k < n → t ≡ a + k → position_or_len (is_same_identifier (Func t)) (map (λ i. Func i) (range_with_len a n)) ≡ k
+place_in_range k a zero t below e = absurd (omega arith)
+place_in_range zero a (suc n) t below e =
+    let here : t ≡ a = omega arith in
+    rw (eq-eqb t a here) refl
+place_in_range (suc k) a (suc n) t below e =
+    let ne : t ≢ a = omega arith in
+    let less : k < n = omega arith in
+    let next : t ≡ a + 1 + k = omega arith in
+    rw (apart_test t a ne, place_in_range k (a + 1) n t less next) (omega arith)
+
+-- the symbol of a function stands behind that of the file and those of the functions before it
+pub function_place : (o : OpenModule) (marks : List Bool) (k : ℕ) → IsModule o marks → k < length o.state.functions → symbol_number o.state (Func k) ≡ suc k
+function_place o marks k h below =
+    let place = ap (position_or_len (is_same_identifier (Func k))) h.order ∙ place_in_range k 0 (length o.state.functions) k below (omega arith) in
+    omega (arith, place)
+
+-- the marks of functions by number
+marked_at : (s : LinkState) (rows : List FunctionRow) (i k j : ℕ) → k < length rows → j ≡ i + k → slice_get (map (λ (row : ℕ × FunctionRow). function_mark s row.0) (enumerate_from i rows)) k ≡ Some (function_mark s j)
+marked_at s [] i k j below e = absurd (omega arith)
+marked_at s (row ∷ rows) i zero j below e =
+    let here : j ≡ i = omega arith in
+    rw here refl
+marked_at s (row ∷ rows) i (suc k) j below e = marked_at s rows (i + 1) k j (omega arith) (omega arith)
+
+pub mark_at : (o : OpenModule) (marks : List Bool) (k : ℕ) → IsModule o marks → k < length o.state.functions → slice_get (function_marks o.state) k ≡ Some (function_mark o.state k)
+unfolding function_marks
+mark_at o marks k h below = marked_at o.state o.state.functions 0 k k below (omega arith)
+
+marks_long : (s : LinkState) (i : ℕ) (rows : List FunctionRow) → length (map (λ (row : ℕ × FunctionRow). function_mark s row.0) (enumerate_from i rows)) ≡ length rows
+marks_long s i [] = refl
+marks_long s i (row ∷ rows) = let rest = marks_long s (i + 1) rows in omega (arith, rest)
+
+pub marks_length : (s : LinkState) → length (function_marks s) ≡ length s.functions
+unfolding function_marks
+marks_length s = marks_long s 0 s.functions
+
+-- the symbol in the row of a function
+pub symbol_in_row : (o : OpenModule) (marks : List Bool) (rows : List (ℕ × Bool)) (i k : ℕ) (row : ℕ × Bool) → IsModule o marks → rows ≡ function_marks o.state → k < length o.state.functions → i ≡ k → (get_or rows i row).0 ≡ suc k
+symbol_in_row o marks rows i k row h e below same =
+    let there = get_or_from_slice_get (function_marks o.state) k (function_mark o.state k) row (mark_at o marks k h below) in
+    ap (λ (j : ℕ). (get_or rows j row).0) same ∙ ap (λ (rs : List (ℕ × Bool)). (get_or rs k row).0) e ∙ ap (λ (r : ℕ × Bool). r.0) there ∙ function_place o marks k h below
+
+-- the object with a section for one more function
+pub later_is : (settings : Settings) (s : LinkState) (ds : List Definition) (object later : ObjectData) (function : ℕ) (contents : List ℕ) → object ≡ partial settings s ds → later ≡ with_function_section settings object → later ≡ opened settings s ds (function_definition function contents)
+later_is settings s ds object later function contents e f = f ∙ ap (with_function_section settings) e ∙ sym (function_opened settings s ds function contents)
+
+pub section_is : (settings : Settings) (s : LinkState) (ds : List Definition) (object : ObjectData) (section function : ℕ) (contents : List ℕ) → object ≡ partial settings s ds → section ≡ function_section settings object → section ≡ number_behind settings s ds (function_definition function contents)
+section_is settings s ds object section function contents e f = f ∙ ap (function_section settings) e ∙ function_number settings s ds function contents
+
+-- what the call leaves
+pub adds : (o : OpenModule) (marks : List Bool) (number function symbol section align : ℕ) (contents : List ℕ) (object later left : ObjectData) → IsModule o marks → IsAdding o number function contents → object ≡ partial o.settings o.state (take number o.state.definitions)
+    → later ≡ with_function_section o.settings object → section ≡ function_section o.settings object → symbol ≡ suc function → align ≡ symbol_alignment o.state.target.triple.architecture → left ≡ with_symbol_data later symbol section contents align
+    → left ≡ partial o.settings o.state (take (number + 1) o.state.definitions)
+adds o marks number function symbol section align contents object later left h add e f g named aligned ends =
+    let ds : List Definition = take number o.state.definitions in
+    let now = later_is o.settings o.state ds object later function contents e f in
+    let place = section_is o.settings o.state ds object section function contents e g in
+    ends
+    ∙ (rw (now, named, place, aligned) (sym (definition_step o marks number function contents h add.found add.declared)))
+
+body_plain : (count : ℕ) (d : Definition) → IsBody count d → d.relocs ≡ []
+body_plain count d body = ap (λ (x : Definition). x.relocs) body.is
+
+-- once all definitions are there, the object is that of the state
+pub all_added : (o : OpenModule) (marks : List Bool) (n : ℕ) (object : ObjectData) → IsModule o marks → length o.state.definitions ≤ n → object ≡ partial o.settings o.state (take n o.state.definitions) → object ≡ object_of o.settings o.state
+all_added o marks n object h past e =
+    let plain = All-weaker (IsBody (length o.state.functions)) IsPlain (λ d body. body_plain (length o.state.functions) d body) o.state.definitions h.bodies in
+    e ∙ ap (partial o.settings o.state) (take_all n o.state.definitions past) ∙ partial_whole o.settings o.state plain
+
+-- -- symbols, one after the other
+
+-- one more function's symbol
+pub symbols_more : (o : OpenModule) (marks : List Bool) (k : ℕ) → IsModule o marks → k < length o.state.functions → map (identifier_symbol o.state []) (take (k + 1) o.state.created) ≡ map (identifier_symbol o.state []) (take k o.state.created) ++ identifier_symbol o.state [] (Func k) ∷ []
+symbols_more o marks k h below =
+    ap (map (identifier_symbol o.state [])) (front_more o.state.created k (Func k) (created_at o marks k h below)) ∙ map-append (identifier_symbol o.state []) (take k o.state.created) (Func k ∷ [])
+
+-- the object with the symbols of the first functions
+abbrev pub with_symbols : OpenModule → ℕ → ObjectData
+with_symbols o k = record (begun_object o.settings o.state) { symbols = file_symbol o.settings.file_name ∷ map (identifier_symbol o.state []) (take k o.state.created) }
+
+pub with_symbols_none : (o : OpenModule) → begun_object o.settings o.state ≡ with_symbols o 0
+with_symbols_none o = refl
+
+pub with_symbols_more : (o : OpenModule) (marks : List Bool) (k : ℕ) (object later : ObjectData) → IsModule o marks → k < length o.state.functions → object ≡ with_symbols o k → later ≡ with_symbol object (identifier_symbol o.state [] (Func k)) → later ≡ with_symbols o (k + 1)
+with_symbols_more o marks k object later h below e f =
+    f ∙ ap (λ (x : ObjectData). with_symbol x (identifier_symbol o.state [] (Func k))) e
+    ∙ ap (λ (ts : List Symbol). record (begun_object o.settings o.state) { symbols = file_symbol o.settings.file_name ∷ ts }) (sym (symbols_more o marks k h below))
+
+pub with_symbols_all : (o : OpenModule) (marks : List Bool) (n : ℕ) → IsModule o marks → length o.state.functions ≤ n → with_symbols o n ≡ partial o.settings o.state []
+unfolding partial sections_used moments
+with_symbols_all o marks n h past =
+    let long : length o.state.created ≤ n = omega (arith, past, ap length h.order, length-map-range_with_len (λ i. Func i) 0 (length o.state.functions)) in
+    ap (λ (ids : List FuncOrDataId). record (begun_object o.settings o.state) { symbols = file_symbol o.settings.file_name ∷ map (identifier_symbol o.state []) ids }) (take_all n o.state.created long)
+
+-- the row of one more function
+pub mark_is : (o : OpenModule) (marks : List Bool) (k : ℕ) (object : ObjectData) (row : ℕ × Bool) → IsModule o marks → k < length o.state.functions → object ≡ with_symbols o k → row ≡ (length object.symbols, is_defined o.state (Func k)) → row ≡ function_mark o.state k
+mark_is o marks k object row h below e f =
+    let long : length o.state.created ≡ length o.state.functions = ap length h.order ∙ length-map-range_with_len (λ i. Func i) 0 (length o.state.functions) in
+    let count : length (with_symbols o k).symbols ≡ symbol_number o.state (Func k) =
+    omega (arith, length-map (take k o.state.created) (identifier_symbol o.state []), length-take k o.state.created, long, below, function_place o marks k h below)
+    in
+    let P : ℕ → ℕ × Bool = λ n. (n, is_defined o.state (Func k)) in
+    f ∙ ap (λ (x : ObjectData). P (length x.symbols)) e ∙ ap P count
+
+marks_from : (s : LinkState) (i : ℕ) (rows : List FunctionRow) → map (λ (row : ℕ × FunctionRow). function_mark s row.0) (enumerate_from i rows) ≡ map (function_mark s) (range_with_len i (length rows))
+marks_from s i [] = refl
+marks_from s i (row ∷ rows) = rw (marks_from s (i + 1) rows) refl
+
+pub marks_whole : (s : LinkState) (n : ℕ) → n ≡ length s.functions → map (function_mark s) (range_with_len 0 n) ≡ function_marks s
+unfolding function_marks
+marks_whole s n e = ap (λ (k : ℕ). map (function_mark s) (range_with_len 0 k)) e ∙ sym (marks_from s 0 s.functions)
+
+pub marks_more : (s : LinkState) (k : ℕ) (rows new : List (ℕ × Bool)) (row : ℕ × Bool) → rows ≡ map (function_mark s) (range_with_len 0 k) → new ≡ rows ++ row ∷ [] → row ≡ function_mark s k → new ≡ map (function_mark s) (range_with_len 0 (k + 1))
+marks_more s k rows new row e f g =
+    f ∙ ap (λ (rs : List (ℕ × Bool)). rs ++ row ∷ []) e ∙ ap (λ (r : ℕ × Bool). map (function_mark s) (range_with_len 0 k) ++ r ∷ []) g ∙ sym (map-range_with_len_more (function_mark s) 0 k k (omega arith))
+
+-- there are no data objects
+pub no_data_marks : (o : OpenModule) (marks : List Bool) → IsModule o marks → [] ≡ data_marks o.state
+unfolding data_marks
+no_data_marks o marks h = sym (ap (λ (objects : List DataRow). map (λ (row : ℕ × DataRow). data_mark o.state row.0) (enumerate_from 0 objects)) h.no_objects)
+
+-- the product of a module
+pub product_is : (o : OpenModule) (marks : List Bool) (object : ObjectData) (rows : List (ℕ × Bool)) → IsModule o marks → object ≡ object_of o.settings o.state → rows ≡ function_marks o.state → record { object = object; functions = rows; data_objects = [] } ≡ product_of o.settings o.state
+product_is o marks object rows h e f = rw (e, f, no_data_marks o marks h) refl

@@ -114,3 +114,12 @@ partial-end settings s ds d k r row plain is declared undefined at apart kinds =
     in
     let sum = sum_by_push (λ (x : Definition). room_of x + align_of s x) ds d ∙ ap (λ (count : ℕ). sum_by (λ (x : Definition). room_of x + align_of s x) ds + (count + align_of s d)) size in
     same_object (opened settings s ds d) _ _ _ _ _ _ sections symbols sum
+
+-- the format of the object is the target's
+pub partial_format : (settings : Settings) (s : LinkState) (ds : List Definition) → (partial settings s ds).format ≡ s.target.triple.binary_format
+unfolding partial
+partial_format settings s ds = refl
+
+pub opened_format : (settings : Settings) (s : LinkState) (ds : List Definition) (d : Definition) → (opened settings s ds d).format ≡ s.target.triple.binary_format
+unfolding opened
+opened_format settings s ds d = refl

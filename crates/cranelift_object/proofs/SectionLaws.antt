@@ -83,7 +83,7 @@ one_where : {A : Type 0} (b : Bool) (x : A) (xs : List A) → b ≡ true → xs 
 one_where true x xs h = refl
 one_where false x xs h = absurd (cc)
 
-apart_test : (a b : ℕ) → a ≢ b → (a == b) ≡ false
+pub apart_test : (a b : ℕ) → a ≢ b → (a == b) ≡ false
 apart_test a b h = elim (eqb_tells a b) [ inl e ↦ absurd (h e.1) | inr e ↦ e.0 ]
 
 members_same : (ps : List Placed) (p : Placed) (k : ℕ) → p.section ≢ k → members (ps ++ p ∷ []) k ≡ members ps k

@@ -17,13 +17,21 @@ use Rattle.cranelift_object.specs.Linked.{object_of, file_flags}
 abbrev pub symbol_number : LinkState → FuncOrDataId → ℕ
 symbol_number s id = 1 + position_or_len (is_same_identifier id) s.created
 
--- for each function by number its symbol, and whether it is defined
-unfoldable pub function_marks : LinkState → List (ℕ × Bool)
-function_marks s = map (λ (row : ℕ × FunctionRow). (symbol_number s (Func row.0), is_defined s (Func row.0))) (enumerate_from 0 s.functions)
+-- the symbol of a function, and whether it is defined
+abbrev pub function_mark : LinkState → ℕ → ℕ × Bool
+function_mark s id = (symbol_number s (Func id), is_defined s (Func id))
 
--- for each data object by number its symbol, and whether it is defined
+-- the symbol of a data object, and whether it is defined
+abbrev pub data_mark : LinkState → ℕ → ℕ × Bool
+data_mark s id = (symbol_number s (Data id), is_defined s (Data id))
+
+-- the marks of the functions by number
+unfoldable pub function_marks : LinkState → List (ℕ × Bool)
+function_marks s = map (λ (row : ℕ × FunctionRow). function_mark s row.0) (enumerate_from 0 s.functions)
+
+-- the marks of the data objects by number
 unfoldable pub data_marks : LinkState → List (ℕ × Bool)
-data_marks s = map (λ (row : ℕ × DataRow). (symbol_number s (Data row.0), is_defined s (Data row.0))) (enumerate_from 0 s.objects)
+data_marks s = map (λ (row : ℕ × DataRow). data_mark s row.0) (enumerate_from 0 s.objects)
 
 -- the product of a finished state
 abbrev pub product_of : Settings → LinkState → ProductData

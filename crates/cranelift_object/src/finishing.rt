@@ -1,6 +1,7 @@
 //! From a module to its object.
 
 ghost use Rattle.std.specs.Prelude.{◌≡◌, ◌<◌, ◌+◌, ◌++◌, [], length, take, Some, None, IfOk, IfErr, OnOk};
+ghost use Rattle.std.specs.List.{list_any};
 ghost use Rattle.cranelift_module.specs.Refusal.{Tells, is_defined};
 ghost use Rattle.cranelift_object.specs.EndCause.{end_cause, function_missing};
 ghost use Rattle.cranelift_object.specs.Linked.{object_of, identifier_symbol, function_symbol, scope_of, file_flags, turns_compression_off};
@@ -136,10 +137,11 @@ impl ObjectModule {
         ensures { OnOk result (object.new ≡ partial (self.now).settings (self.now).state (take (number + 1) (self.now).state.definitions)) }
     {
         let definition = &self.definitions[number];
-        let section = self.section_of(object)?;
-        let (symbol, _) = functions[definition.function().as_u32() as usize];
+        let function = definition.function().as_u32() as usize;
+        let contents = definition.contents();
         let align = self.builder.isa().symbol_alignment();
-        object.add_symbol_data(symbol, section, definition.contents(), align)?;
+        let section = self.section_of(object)?;
+        object.add_symbol_data(functions[function].0, section, contents, align)?;
         Ok(())
     }
 
@@ -195,15 +197,17 @@ fn file_flags(isa: &TargetIsa) -> u32
     ensures { result ≡ file_flags (isa.now).triple.architecture (isa.now).flags }
 {
     match isa.triple().architecture {
-        Architecture::Riscv64 => {
-            if isa.flags().iter().any(turns_compression_off) {
-                4
-            } else {
-                5
-            }
-        }
+        Architecture::Riscv64 if turn_compression_off(isa.flags()) => 4,
+        Architecture::Riscv64 => 5,
         _ => 0,
     }
+}
+
+// Whether one of these flags turns compression off.
+fn turn_compression_off(flags: &[Flag]) -> bool
+    ensures { result ≡ list_any turns_compression_off flags.now }
+{
+    flags.iter().any(turns_compression_off)
 }
 
 // A flag for compressed instructions that is listed without the value true.

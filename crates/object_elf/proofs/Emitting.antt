@@ -49,9 +49,9 @@ pub table_bytes : (ss : List Symbol) (padded nulled locals all : List ℕ) (plac
     → place ≡ 1 + names_size (chosen true ss) → all ≡ locals ++ flat_map symbol_row_bytes (symbol_rows_from place (chosen false ss)) → all ≡ padded ++ (symbol_contents (rows_in_order ss)).bytes
 table_bytes ss padded nulled locals all place n l p a =
     let both : flat_map symbol_row_bytes (symbol_rows_from 1 (rows_in_order ss)) ≡ flat_map symbol_row_bytes (symbol_rows_from 1 (chosen true ss)) ++ flat_map symbol_row_bytes (symbol_rows_from place (chosen false ss)) =
-        ap (λ rows. flat_map symbol_row_bytes (symbol_rows_from 1 rows)) (in_order ss)
-        ∙ ap (flat_map symbol_row_bytes) (rows_append 1 (chosen true ss) (chosen false ss) ∙ ap (λ q. symbol_rows_from 1 (chosen true ss) ++ symbol_rows_from q (chosen false ss)) (sym p))
-        ∙ flat_map-append symbol_row_bytes (symbol_rows_from 1 (chosen true ss)) (symbol_rows_from place (chosen false ss)) in
+    ap (λ rows. flat_map symbol_row_bytes (symbol_rows_from 1 rows)) (in_order ss)
+    ∙ ap (flat_map symbol_row_bytes) (rows_append 1 (chosen true ss) (chosen false ss) ∙ ap (λ q. symbol_rows_from 1 (chosen true ss) ++ symbol_rows_from q (chosen false ss)) (sym p))
+    ∙ flat_map-append symbol_row_bytes (symbol_rows_from 1 (chosen true ss)) (symbol_rows_from place (chosen false ss)) in
     a
     ∙ ap (λ m. m ++ flat_map symbol_row_bytes (symbol_rows_from place (chosen false ss))) (l ∙ ap (λ m. m ++ flat_map symbol_row_bytes (symbol_rows_from 1 (chosen true ss))) (n ∙ ap (λ m. padded ++ m) null_row))
     ∙ append_assoc (padded ++ symbol_row_bytes null_symbol) (flat_map symbol_row_bytes (symbol_rows_from 1 (chosen true ss))) (flat_map symbol_row_bytes (symbol_rows_from place (chosen false ss)))
@@ -63,9 +63,9 @@ pub table_names : (ss : List Symbol) (old zero locals all : List ℕ) → zero �
 unfolding string_bytes_of
 table_names ss old zero locals all z l a =
     let both : flat_map with_zero (row_names (rows_in_order ss)) ≡ chosen_names true ss ++ chosen_names false ss =
-        ap (λ rows. flat_map with_zero (row_names rows)) (in_order ss)
-        ∙ ap (flat_map with_zero) (map-append (λ (s : ElfTableSymbol). s.name) (chosen true ss) (chosen false ss))
-        ∙ flat_map-append with_zero (row_names (chosen true ss)) (row_names (chosen false ss)) in
+    ap (λ rows. flat_map with_zero (row_names rows)) (in_order ss)
+    ∙ ap (flat_map with_zero) (map-append (λ (s : ElfTableSymbol). s.name) (chosen true ss) (chosen false ss))
+    ∙ flat_map-append with_zero (row_names (chosen true ss)) (row_names (chosen false ss)) in
     a
     ∙ ap (λ m. m ++ chosen_names false ss) (l ∙ ap (λ m. m ++ chosen_names true ss) z)
     ∙ append_assoc (old ++ 0 ∷ []) (chosen_names true ss) (chosen_names false ss)
@@ -103,7 +103,7 @@ skip_note t h body s =
     let front = lays_more h m1 m2 cs (record { align = 1; bytes = [] } ∷ rs) first (lays_more m1 m1 m2 (record { align = 1; bytes = [] } ∷ []) rs note second) in
     let names = lays_bytes m3 (body ++ string_bytes_of (section_names t)) (string_bytes_of (section_names t)) (ap (λ l. l ++ string_bytes_of (section_names t)) (sym same)) in
     lays_more h m2 (body ++ string_bytes_of (section_names t)) (cs ++ record { align = 1; bytes = [] } ∷ rs) (symbol_contents t.symbols ∷ string_contents (symbol_names t) ∷ string_contents (section_names t) ∷ []) front
-      (lays_more m2 m3 (body ++ string_bytes_of (section_names t)) ts (string_contents (section_names t) ∷ []) third names)
+    (lays_more m2 m3 (body ++ string_bytes_of (section_names t)) ts (string_contents (section_names t) ∷ []) third names)
 
 pub file_is : (t : ElfTable) → FitsElf t → (h body file : List ℕ) → h ≡ header_bytes (header_for t) → LaysOut h body (table_body t) → file ≡ with_end body (parts_of t) → file ≡ elf_file t
 unfolding elf_file
@@ -112,7 +112,7 @@ file_is t f h body file e s q =
     let all = skip_note t h body s in
     let size : length h ≡ 64 = ap length e ∙ length-header_bytes (header_for t) refl in
     let end : length named ≡ end_of_parts (parts_of t) =
-        ap length all.bytes ∙ length-append h (laid_out (length h) (contents_of t)) ∙ length-laid_out (length h) (contents_of t) ∙ ap (λ at. end_of_aligned at (contents_of t)) size ∙ whole_end_is t f in
+    ap length all.bytes ∙ length-append h (laid_out (length h) (contents_of t)) ∙ length-laid_out (length h) (contents_of t) ∙ ap (λ at. end_of_aligned at (contents_of t)) size ∙ whole_end_is t f in
     let padding : next_multiple_of (length named) 8 - length named ≡ headers_start t - end_of_parts (parts_of t) = ap (λ n. next_multiple_of n 8 - n) end in
     let contents : named ≡ header_bytes (header_for t) ++ laid_out 64 (contents_of t) = all.bytes ∙ ap (λ at. h ++ laid_out at (contents_of t)) size ∙ ap (λ l. l ++ laid_out 64 (contents_of t)) e in
     let names : body ++ string_bytes_of (map part_name (parts_of t)) ≡ named = ap (λ l. body ++ string_bytes_of l) (names_of_parts t) in

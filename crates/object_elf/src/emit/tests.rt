@@ -1,5 +1,8 @@
 //! The bytes of small files.
 
+ghost use Rattle.std.specs.Prelude.{◌≡◌, IfOk};
+ghost use Rattle.object_elf.specs.SmallObjects.{file_object, main_object};
+
 use crate::emit_elf;
 use ir_core::{Architecture, BinaryFormat};
 use object_core::{
@@ -8,27 +11,24 @@ use object_core::{
 use std::alloc::{AllocError, Global};
 use std::test::Fail;
 
-/// An object of which `a.o` is the file.
-fn object_of_file(alloc: Global) -> Result<Object, AllocError> {
+/// An object whose source file is `a.o`.
+fn file_object(alloc: Global) -> Result<Object, AllocError>
+    ensures { IfOk result (λ o. o ≡ file_object) }
+{
     let mut object = Object::new(alloc, BinaryFormat::Elf, Architecture::X86_64, 0);
     object.add_file_symbol(b"a.o")?;
     Ok(object)
 }
 
-#[test]
-fn an_empty_part_has_480_bytes(rt: HostRuntime) -> Result<(), Fail> {
-    let object = object_of_file(rt.alloc())?;
-    let file = emit_elf(rt.alloc(), &object)?;
-    assert_eq!(rt; file.len(), 480);
-    Ok(())
-}
-
-#[test]
-fn an_exported_main_has_592_bytes(rt: HostRuntime) -> Result<(), Fail> {
-    let mut object = object_of_file(rt.alloc())?;
+/// An object that exports the function `main` of one byte.
+fn main_object(alloc: Global) -> Result<Object, AllocError>
+    ensures { IfOk result (λ o. o ≡ main_object) }
+{
+    let mut object = file_object(alloc)?;
     let text = object.section_id(StandardSection::Text)?;
+    let name = SymbolName::from_slice(alloc, b"main")?;
     let main = object.add_symbol(Symbol {
-        name: SymbolName::from_slice(rt.alloc(), b"main")?,
+        name,
         value: 0,
         size: 0,
         kind: SymbolKind::Text,
@@ -38,6 +38,20 @@ fn an_exported_main_has_592_bytes(rt: HostRuntime) -> Result<(), Fail> {
         no_dead_strip: false,
     })?;
     object.add_symbol_data(main, text, b"\xc3", 1)?;
+    Ok(object)
+}
+
+#[test]
+fn an_empty_part_has_480_bytes(rt: HostRuntime) -> Result<(), Fail> {
+    let object = file_object(rt.alloc())?;
+    let file = emit_elf(rt.alloc(), &object)?;
+    assert_eq!(rt; file.len(), 480);
+    Ok(())
+}
+
+#[test]
+fn an_exported_main_has_592_bytes(rt: HostRuntime) -> Result<(), Fail> {
+    let object = main_object(rt.alloc())?;
     let file = emit_elf(rt.alloc(), &object)?;
     assert_eq!(rt; file.as_slice(), MAIN_FILE.as_slice());
     Ok(())

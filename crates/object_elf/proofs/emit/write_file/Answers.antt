@@ -41,9 +41,9 @@ returns-clause-bytes c =
     let symbols = c.symbols.ensures.value in
     let rows = rw symbols at c.in_ok-rows.ensures.rows in
     let head : c.push_header.new.out.items ≡ header_bytes (header_for (elf_table_of o)) =
-        c.in_ok-push_header.ensures.bytes
-        ∙ ap (λ (l : List ℕ). l ++ header_bytes (header_with (elf_machine c.architecture.result) c.e_flags.result c.in_ok-start.start c.len-count.result)) c.in_ok-file.ensures.items
-        ∙ ap header_bytes (header_is_of o (elf_machine c.architecture.result) c.e_flags.result c.in_ok-start.start c.len-count.result (ap elf_machine c.architecture.ensures) c.e_flags.ensures start count) in
+    c.in_ok-push_header.ensures.bytes
+    ∙ ap (λ (l : List ℕ). l ++ header_bytes (header_with (elf_machine c.architecture.result) c.e_flags.result c.in_ok-start.start c.len-count.result)) c.in_ok-file.ensures.items
+    ∙ ap header_bytes (header_is_of o (elf_machine c.architecture.result) c.e_flags.result c.in_ok-start.start c.len-count.result (ap elf_machine c.architecture.ensures) c.e_flags.ensures start count) in
     let named = formed_names o c.requires.formed (length o.symbols) refl in
     let body = lays_as _ _ _ _ (body_is o c.in_ok-rows.rows.items rows named) (rw c.deref-2.ensures.value at c.in_ok-push_body.ensures.bytes) in
     let end = rw c.deref-3.ensures.value at c.in_ok-push_end.ensures in

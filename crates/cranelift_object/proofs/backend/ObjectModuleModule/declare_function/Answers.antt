@@ -6,12 +6,9 @@ use Rattle.cranelift_object.proofs.CallLaws.{refused_call, accepted_call, refusa
 use Rattle.cranelift_object.proofs.DeclareLaws.{declare_noted, step_noted}
 use Rattle.cranelift_object.proofs.backend.ObjectModuleModule.declare_function.Goals as goal
 
-pub returns-in-Err : goal.returns-in-Err
-returns-in-Err c =
-    record {
-      call = refused_call c.in-Err.error _ _ _ (refusal_name c.args.self.now.state c.args.name.now c.args.linkage c.args.signature.now c.in-Err.error (rw (← c.as_bytes.ensures.value) c.in-Err.ensures.refused)) refl;
-      id = tt;
-    }
+pub returns-in-Err-clause-call : goal.returns-in-Err-clause-call
+returns-in-Err-clause-call c =
+    refused_call c.in-Err.error _ _ _ (refusal_name c.args.self.now.state c.args.name.now c.args.linkage c.args.signature.now c.in-Err.error (rw (← c.as_bytes.ensures.value) c.in-Err.ensures.refused)) refl
 
 pub invariant_of-self-2 : goal.invariant_of-self-2
 invariant_of-self-2 c =

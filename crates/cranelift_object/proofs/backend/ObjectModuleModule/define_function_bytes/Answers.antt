@@ -7,10 +7,10 @@ use Rattle.cranelift_object.proofs.KeptLaws.{kept_body}
 use Rattle.cranelift_object.proofs.CallLaws.{refused_call, accepted_call, refusal_defined, step_defined, definable_declared, definable_free}
 use Rattle.cranelift_object.proofs.backend.ObjectModuleModule.define_function_bytes.Goals as goal
 
-pub returns-in-Err : goal.returns-in-Err
-returns-in-Err c =
+pub returns-in-Err-clause-call : goal.returns-in-Err-clause-call
+returns-in-Err-clause-call c =
     let functions = ap (λ (o : OpenModule). o.state.functions) c.self.view_is in
-    record { call = refused_call c.in-Err.error _ _ _ (rw (refusal_defined c.args.self.now.state c.args.func_id c.args.alignment c.args.bytes.now c.args._relocs.now _ _ c.requires.plain.1 c.is_defined-defined.ensures functions) c.in-Err.ensures.refused) refl }
+    refused_call c.in-Err.error _ _ _ (rw (refusal_defined c.args.self.now.state c.args.func_id c.args.alignment c.args.bytes.now c.args._relocs.now _ _ c.requires.plain.1 c.is_defined-defined.ensures functions) c.in-Err.ensures.refused) refl
 
 pub index_mut-requires : goal.index_mut-requires
 index_mut-requires c =
@@ -27,14 +27,11 @@ invariant_of-self-2 c =
     in
     kept_body _ _ _ _ c.args.func_id _ c.args.bytes.now c.self.invariant below marks c.in_ok-definition.ensures.small c.in_ok-definition.ensures.value c.in_ok-push.ensures.items c.as_u32.ensures
 
-pub returns : goal.returns
-returns c =
+pub returns-clause-call : goal.returns-clause-call
+returns-clause-call c =
     let functions = ap (λ (o : OpenModule). o.state.functions) c.self.view_is in
     let made : c.push.new.self.items ≡ c.args.self.now.state.definitions ++ function_definition c.args.func_id c.args.bytes.now ∷ [] =
     c.in_ok-push.ensures.items ∙ ap (λ (o : OpenModule). o.state.definitions ++ c.in_ok-definition.definition ∷ []) c.self.view_is ∙ ap (λ (d : Definition). c.args.self.now.state.definitions ++ d ∷ []) c.in_ok-definition.ensures.value
     in
-    record {
-      call =
-          accepted_call _ _ _ _ (refusal_defined c.args.self.now.state c.args.func_id c.args.alignment c.args.bytes.now c.args._relocs.now _ _ c.requires.plain.1 c.is_defined-defined.ensures functions ∙ c.in_default.ensures.accepted)
-          (step_defined _ _ _ _ _ _ _ _ _ _ c.requires.plain.0 c.requires.plain.1 made (ap (λ (o : OpenModule). o.state.target) c.self.view_is) functions (ap (λ (o : OpenModule). o.state.objects) c.self.view_is) (ap (λ (o : OpenModule). o.state.created) c.self.view_is));
-    }
+    accepted_call _ _ _ _ (refusal_defined c.args.self.now.state c.args.func_id c.args.alignment c.args.bytes.now c.args._relocs.now _ _ c.requires.plain.1 c.is_defined-defined.ensures functions ∙ c.in_default.ensures.accepted)
+    (step_defined _ _ _ _ _ _ _ _ _ _ c.requires.plain.0 c.requires.plain.1 made (ap (λ (o : OpenModule). o.state.target) c.self.view_is) functions (ap (λ (o : OpenModule). o.state.objects) c.self.view_is) (ap (λ (o : OpenModule). o.state.created) c.self.view_is))

@@ -1,0 +1,7 @@
+use Rattle.std.proofs.Common.{refl, lit<}
+use lib.Count.{ones}
+use Rattle.object_elf.proofs.emit.tests.main_object.Goals as goal
+
+pub add_symbol_data-requires-clause-power : goal.add_symbol_data-requires-clause-power
+unfolding ones
+add_symbol_data-requires-clause-power c = refl
