@@ -2,7 +2,7 @@
 
 ghost use Rattle.std.specs.Prelude.{◌≡◌, map, [], IfOk};
 ghost use Rattle.serde_json.specs.View.{view, items_view};
-ghost use Rattle.cranelift_object.specs.Commands.{command_view};
+ghost use Rattle.cranelift_object.specs.Command.{command_view};
 ghost use Rattle.objtool_run.specs.Form.{Gives};
 ghost use Rattle.objtool_run.specs.Script.{linkage_of, declare_of, anonymous_of, define_of, command_of, commands_of};
 

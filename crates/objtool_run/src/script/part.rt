@@ -3,7 +3,7 @@
 ghost use Rattle.std.specs.Prelude.{◌≡◌, ◌<◌, ◌∷◌, [], map, length, Some, IfOk, IfErr};
 ghost use Rattle.std.specs.List.{All};
 ghost use Rattle.serde_json.specs.View.{view, items_view};
-ghost use Rattle.cranelift_object.specs.Commands.{command_view};
+ghost use Rattle.cranelift_object.specs.Command.{command_view};
 ghost use Rattle.image_build.specs.Parts.{part_view, IsBuildable};
 ghost use Rattle.objtool_run.specs.Form.{Gives};
 ghost use Rattle.objtool_run.specs.Script.{elf_target, part_of, part_with, parts_of, commands_of, StandsFor, HasFewCalls};

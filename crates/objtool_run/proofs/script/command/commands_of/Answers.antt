@@ -1,4 +1,4 @@
-use Rattle.cranelift_object.specs.Commands.{command_view}
+use Rattle.cranelift_object.specs.Command.{command_view}
 use Rattle.objtool_run.specs.Script.{command_of}
 use Rattle.objtool_run.proofs.EachOf.{each_step, each_stop, each_end}
 use Rattle.objtool_run.proofs.script.command.commands_of.Goals as goal

@@ -1,6 +1,6 @@
 use Rattle.std.proofs.Common.{◌≡◌, drop, map}
 use Rattle.serde_json.specs.View.{items_view}
-use Rattle.cranelift_object.specs.Commands.{command_view}
+use Rattle.cranelift_object.specs.Command.{command_view}
 use Rattle.objtool_run.specs.Form.{each_of}
 use Rattle.objtool_run.specs.Script.{command_of}
 use Rattle.objtool_run.proofs.EachOf.{with_front}
