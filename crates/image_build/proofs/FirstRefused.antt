@@ -14,7 +14,7 @@ use Rattle.cranelift_object.specs.Part.{PartRefusal, at_call, command_cause, fir
 called : Target → List Call → ℕ → Option PartRefusal
 called target all j = option_map (at_call j) (command_cause target all j)
 
-at_pair : ℕ × Refusal → PartRefusal
+abbrev pub at_pair : ℕ × Refusal → PartRefusal
 at_pair p = at_call p.0 p.1
 
 take_front : {A : Type 0} (xs ys : List A) → take (length xs) (xs ++ ys) ≡ xs
@@ -34,7 +34,6 @@ first_of None xs = refl
 first_of (Some x) xs = refl
 
 joined : (o : Option Refusal) (j : ℕ) (rest : Option PartRefusal) (later : Option (ℕ × Refusal)) → (o ≡ None → rest ≡ option_map at_pair later) → option_or (option_map (at_call j) o) rest ≡ option_map at_pair (option_or (option_map (λ r. (j, r)) o) later)
-unfolding at_pair
 joined None j rest later h = h refl
 joined (Some r) j rest later h = refl
 
@@ -53,15 +52,18 @@ pub first_refused-calls : (target : Target) (calls : List Call) → first_refuse
 unfolding called
 first_refused-calls target calls = from_place target calls [] calls 0 refl refl
 
+accepted_on : (target : Target) (before cs : List Call) (c : Call) (j : ℕ) (o : Option Refusal) → refusal (state_of target before) c ≡ o
+    → (first_refusal (state_of target (before ++ c ∷ [])) (j + 1) cs ≡ None → steps (state_of target (before ++ c ∷ [])) cs ≡ state_of target ((before ++ c ∷ []) ++ cs))
+    → option_or (option_map (λ r. (j, r)) o) (first_refusal (step (state_of target before) c) (j + 1) cs) ≡ None → steps (step (state_of target before) c) cs ≡ state_of target (before ++ c ∷ cs)
+accepted_on target before cs c j (Some r) e later k = absurd (cc)
+accepted_on target before cs c j None e later k =
+    let more = state_of-step target before c e in
+    ap (λ s. steps s cs) (sym more) ∙ later (ap (λ s. first_refusal s (j + 1) cs) more ∙ k) ∙ ap (state_of target) (append_assoc before (c ∷ []) cs)
+
 accepted_from : (target : Target) (before rest : List Call) (j : ℕ) → first_refusal (state_of target before) j rest ≡ None → steps (state_of target before) rest ≡ state_of target (before ++ rest)
 unfolding first_refusal
 accepted_from target before [] j h = ap (state_of target) (sym (append-nil before))
-accepted_from target before (c ∷ cs) j h = go (refusal (state_of target before) c) refl h where
-  go : (o : Option Refusal) → refusal (state_of target before) c ≡ o → option_or (option_map (λ r. (j, r)) o) (first_refusal (step (state_of target before) c) (j + 1) cs) ≡ None → steps (step (state_of target before) c) cs ≡ state_of target (before ++ c ∷ cs)
-  go (Some r) e k = absurd (cc)
-  go None e k =
-      let more = state_of-step target before c e in
-      ap (λ s. steps s cs) (sym more) ∙ accepted_from target (before ++ c ∷ []) cs (j + 1) (ap (λ s. first_refusal s (j + 1) cs) more ∙ k) ∙ ap (state_of target) (append_assoc before (c ∷ []) cs)
+accepted_from target before (c ∷ cs) j h = accepted_on target before cs c j (refusal (state_of target before) c) refl (accepted_from target (before ++ c ∷ []) cs (j + 1)) h
 
 -- calls of which none is refused leave the state of their list
 pub accepted-state : (target : Target) (calls : List Call) → first_refusal (state_of target []) 0 calls ≡ None → steps (state_of target []) calls ≡ state_of target calls
