@@ -39,6 +39,7 @@ use Rattle.cranelift_module.specs.Refusal.{is_same_identifier}
 use Rattle.cranelift_object.specs.Opened.{OpenModule}
 use Rattle.cranelift_object.specs.SectionClass.{Class, section_class, standard_class}
 use Rattle.cranelift_object.specs.Linked.{defined_at, named_symbol, function_symbol, identifier_symbol, section_with, members, relocations_of, object_of}
+use Rattle.cranelift_object.specs.Product.{IsWritable}
 use Rattle.cranelift_object.specs.Partial.{sections_from}
 use Rattle.cranelift_object.proofs.ObjectLaws.{All-slice_get, partial_whole, IsPlain}
 use Rattle.cranelift_object.proofs.DefineLaws.{created_at, row_at, used_all, body_plain}
@@ -228,7 +229,7 @@ both_within : (o : ObjectData) (ps : List Placed) → All (λ (p : Placed). p.se
 both_within o [] a b = All-nil (IsWithin o)
 both_within o (p ∷ ps) a b =
     All-cons (IsWithin o) p ps (All-head (λ (q : Placed). q.section < length o.sections) p ps a, All-head (λ (q : Placed). q.offset ≤ o.content_sum) p ps b)
-      (both_within o ps (All-tail (λ (q : Placed). q.section < length o.sections) p ps a) (All-tail (λ (q : Placed). q.offset ≤ o.content_sum) p ps b))
+    (both_within o ps (All-tail (λ (q : Placed). q.section < length o.sections) p ps a) (All-tail (λ (q : Placed). q.offset ≤ o.content_sum) p ps b))
 
 body_least : (count : ℕ) (d : Definition) → IsBody count d → 1 ≤ d.align
 body_least count d body = rw body.is (omega arith)
@@ -283,6 +284,9 @@ formed o marks h =
     let plain = All-weaker (IsBody (length o.state.functions)) IsPlain (λ d body. body_plain (length o.state.functions) d body) o.state.definitions h.bodies in
     subst IsFormedElf (partial_whole o.settings o.state plain) (record { symbols = formed_symbols o marks h; names = formed_names o marks h; relocations = formed_relocations o marks h })
 
-pub object_format : (settings : Settings) (s : LinkState) → (object_of settings s).format ≡ s.target.triple.binary_format
+object_format : (settings : Settings) (s : LinkState) → (object_of settings s).format ≡ s.target.triple.binary_format
 unfolding object_of
 object_format settings s = refl
+
+pub writable : (o : OpenModule) (marks : List Bool) (object : ObjectData) → IsModule o marks → object ≡ object_of o.settings o.state → IsWritable object
+writable o marks object h e = rw e (record { format = object_format o.settings o.state ∙ h.begun.format; formed = formed o marks h })
