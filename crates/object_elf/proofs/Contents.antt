@@ -1,9 +1,8 @@
 -- Contents, relocations, names and padding of the file of a table.
-use Rattle.std.proofs.Common.{◌≡◌, ℕ, zero, suc, ◌+◌, ◌-◌, ◌*◌, ◌^◌, ◌<◌, ◌≤◌, ◌==◌, List, [], ◌∷◌, ◌++◌, length, take, map, refl, ap, sym, ◌∙◌, arith, Option, Some, None, Bool, true, false, not, slice_get, lit<, replicate}
-use Rattle.std.specs.Prelude.{flat_map, count_by}
+use Rattle.std.proofs.Common.{◌≡◌, ℕ, zero, suc, ◌+◌, ◌-◌, ◌*◌, ◌==◌, List, [], ◌∷◌, length, take, refl, ap, arith, Some, true, not, slice_get}
+use Rattle.std.specs.Prelude.{count_by}
 use Rattle.std.proofs.Math.Dec.{eqb-suc-zero}
 use Rattle.byte_core.specs.Number.{bytes_at}
-use Rattle.byte_core.specs.LaidOut.{Aligned}
 use Rattle.byte_core.proofs.Standing.{StandsAt, row_stands, bytes_stand}
 use Rattle.byte_core.proofs.LaidOut.{zeros, length-zeros}
 use Rattle.object_core.specs.LinkTable.{ElfTable, ElfTableSection, ElfRelocation}
@@ -12,7 +11,6 @@ use Rattle.object_elf.specs.Layout.{Part, is_relocated, symbol_table_row, string
 use Rattle.object_elf.specs.ElfHolds.{record_for, part_offset, relocations_row, IsZero}
 use Rattle.object_elf.specs.File.{section_contents, relocation_contents, relocation_row_bytes, string_contents, elf_file, contents_of}
 use Rattle.object_elf.specs.Fitting.{FitsElf, FitsRelocation}
-use Rattle.object_elf.proofs.Lists.{get_within}
 use Rattle.object_elf.proofs.Rows.{FitsRelocationRow, relocation_row_stands, length-relocation_row_bytes}
 use Rattle.object_elf.proofs.Parts.{fit_contents, fit_table}
 use Rattle.object_elf.proofs.PartCases.{front_count, contents_at_section, contents_at_relocations, contents_at_symbol_strings, contents_at_section_strings}

@@ -1,5 +1,5 @@
 -- The pieces that are written one after the other are the file of the table.
-use Rattle.std.proofs.Common.{◌≡◌, ℕ, ◌+◌, ◌-◌, ◌*◌, ◌<◌, ◌≤◌, List, [], ◌∷◌, ◌++◌, length, map, refl, ap, sym, ◌∙◌, arith, append_assoc, append-nil, length-append, Bool, true, false, cond, suc, slice_get, Some, replicate}
+use Rattle.std.proofs.Common.{◌≡◌, ℕ, ◌+◌, ◌-◌, ◌<◌, List, [], ◌∷◌, ◌++◌, length, map, refl, ap, sym, ◌∙◌, arith, append_assoc, append-nil, length-append, Bool, true, false, cond, suc, slice_get, Some, replicate}
 use Rattle.std.specs.Prelude.{flat_map, filter, sum_by, count_by, slice_index}
 use Rattle.std.specs.Int.{next_multiple_of}
 use Rattle.std.proofs.lemmas.Grind.{flat_map-append}
@@ -8,7 +8,7 @@ use Rattle.std.proofs.lemmas.List.Sums.{sum_by-cons}
 use Rattle.byte_core.specs.Number.{little_bytes}
 use Rattle.byte_core.specs.Fields.{field_bytes}
 use Rattle.byte_core.specs.LaidOut.{Aligned, LaysOut, end_of_aligned, laid_out}
-use Rattle.byte_core.proofs.LaidOut.{lays_more, lays_one, lays_none, zeros, length-laid_out}
+use Rattle.byte_core.proofs.LaidOut.{lays_more, lays_one, length-laid_out}
 use Rattle.object_core.specs.declared.symbol.Symbol.{Symbol}
 use Rattle.object_core.specs.LinkTable.{ElfTable, ElfTableSection, ElfTableSymbol}
 use Rattle.object_core.specs.declared.relocation.Relocation.{Relocation}

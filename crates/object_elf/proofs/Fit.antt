@@ -1,7 +1,7 @@
 -- The table of a formed object within the limits fits.
-use Rattle.std.proofs.Common.{◌≡◌, ℕ, zero, suc, ◌+◌, ◌-◌, ◌*◌, ◌^◌, ◌<◌, ◌≤◌, List, [], ◌∷◌, ◌++◌, length, take, get_or, map, refl, ap, sym, ◌∙◌, subst, arith, lit<, Bool, true, false, cond, not, slice_get, Some, ◌⊎◌, inl, inr}
-use Rattle.std.specs.Prelude.{filter, count_by, sum_by}
-use Rattle.std.proofs.lemmas.List.Sums.{sum_by-take-le, length-filter, count_by-le-length}
+use Rattle.std.proofs.Common.{◌≡◌, ℕ, ◌+◌, ◌^◌, ◌<◌, ◌≤◌, List, ◌++◌, length, take, get_or, map, refl, ap, sym, subst, arith, lit<, Bool, true, false, cond, not, slice_get, Some, ◌⊎◌, inl, inr}
+use Rattle.std.specs.Prelude.{filter, count_by}
+use Rattle.std.proofs.lemmas.List.Sums.{sum_by-take-le, count_by-le-length}
 use Rattle.std.proofs.lemmas.Option.{get_or_from_slice_get}
 use Rattle.ir_core.specs.declared.target.Architecture.{Architecture}
 use Rattle.ir_core.specs.declared.target.Architecture.TheVariants as machine
@@ -14,17 +14,17 @@ use Rattle.object_core.specs.declared.kinds.SymbolScope.TheVariants as scope
 use Rattle.object_core.specs.declared.kinds.SymbolSection.{SymbolSection}
 use Rattle.object_core.specs.declared.kinds.SymbolSection.TheVariants as section
 use Rattle.object_core.specs.declared.symbol.Symbol.{Symbol}
-use Rattle.object_core.specs.declared.relocation.Relocation.{Relocation}
 use Rattle.object_core.specs.Object.{SectionData, ObjectData, is_in_section, is_local, is_global}
 use Rattle.object_core.specs.Standard.{is_zero_fill}
 use Rattle.object_core.specs.Appending.{IsSection, AreSections}
-use Rattle.object_core.specs.ElfRows.{elf_machine, elf_section_type, elf_section_flags, retain_flag, elf_binding, elf_symbol_type, elf_other, elf_shndx, elf_symbol, elf_section, elf_relocation, elf_table_of, row_in}
-use Rattle.object_core.specs.WellFormed.{PlaceFits, IsFormedSymbol, IsFormedRelocation, IsFormedElf}
-use Rattle.object_core.specs.LinkTable.{ElfTable, ElfTableSection, ElfTableSymbol, ElfRelocation}
-use Rattle.object_elf.specs.Layout.{parts_of, file_length}
-use Rattle.object_elf.specs.Fitting.{FitsElf, FitsSection, FitsSymbol, FitsRelocation, HasContents}
-use Rattle.object_elf.specs.Writing.{NumbersFit, FitsRow, FitRows, FitSizes, FitsRecord, FitRecords, NameSymbols, is_chosen}
-use Rattle.object_elf.specs.PlainCounts.{plain_counts, IsWithinLimits}
+use Rattle.object_core.specs.ElfRows.{elf_machine, elf_section_type, elf_section_flags, retain_flag, elf_symbol_type, elf_other, elf_shndx, elf_symbol, elf_section, elf_relocation, elf_table_of, row_in}
+use Rattle.object_core.specs.WellFormed.{PlaceFits, IsFormedSymbol, IsFormedElf}
+use Rattle.object_core.specs.LinkTable.{ElfTableSection, ElfTableSymbol, ElfRelocation}
+use Rattle.object_elf.specs.Layout.{file_length}
+use Rattle.object_elf.specs.Fitting.{FitsElf, FitsSection, FitsSymbol, FitsRelocation}
+use Rattle.object_elf.specs.Writing.{NumbersFit, FitsRow, FitRows, FitSizes, FitRecords, NameSymbols, is_chosen}
+use Rattle.object_elf.specs.PlainCounts.{plain_counts}
+use Rattle.object_elf.specs.Limits.{IsWithinLimits}
 use Rattle.object_elf.proofs.Lists.{get_within, get_map_from, get_append, one_of_sum, Passing, passing}
 use Rattle.object_elf.proofs.PartCases.{length-parts_of}
 use Rattle.object_elf.proofs.RelocationLoops.{count_yes, local_and_global}

@@ -1,15 +1,6 @@
 -- Two small objects that are formed.
-use Rattle.std.proofs.Common.{◌≡◌, ℕ, ◌≤◌, ◌<◌, ◌+◌, List, [], ◌∷◌, Bool, true, false, Some, None, slice_get, refl, codes, arith, lit≤, lit<}
-use Rattle.ir_core.specs.declared.target.Architecture.TheVariants.{X86_64}
-use Rattle.ir_core.specs.declared.target.BinaryFormat.TheVariants.{Elf}
-use Rattle.object_core.specs.declared.kinds.StandardSection.TheVariants as standard
-use Rattle.object_core.specs.declared.kinds.SymbolKind.TheVariants as kind
-use Rattle.object_core.specs.declared.kinds.SymbolScope.TheVariants as scope
-use Rattle.object_core.specs.declared.kinds.SymbolSection.TheVariants as section
-use Rattle.object_core.specs.declared.symbol.Symbol.{Symbol}
+use Rattle.std.proofs.Common.{◌≡◌, ℕ, false, Some, slice_get, refl, lit≤, lit<}
 use Rattle.object_core.specs.declared.relocation.Relocation.{Relocation}
-use Rattle.object_core.specs.Object.{SectionData, ObjectData}
-use Rattle.object_core.specs.Appending.{empty_object, with_symbol, file_symbol, with_standard_section, with_symbol_data}
 use Rattle.object_core.specs.WellFormed.{IsFormedSymbol, IsFormedRelocation, IsFormedElf, has_zero_byte}
 use Rattle.image_read.proofs.Below.{each_here}
 use Rattle.object_elf.specs.SmallObjects.{file_object, main_object}

@@ -1,19 +1,19 @@
 -- The file of each table that fits holds the table.
-use Rattle.std.proofs.Common.{◌≡◌, ◌≢◌, ℕ, zero, suc, ◌+◌, ◌-◌, ◌*◌, ◌/◌, ◌%◌, ◌^◌, ◌<◌, ◌≤◌, ◌==◌, List, [], ◌∷◌, length, take, refl, ap, sym, ◌∙◌, arith, Option, Some, None, Bool, true, false, slice_get, ◌⊎◌, inl, inr, cond}
+use Rattle.std.proofs.Common.{◌≡◌, ℕ, zero, suc, ◌+◌, ◌-◌, ◌*◌, ◌/◌, ◌<◌, ◌≤◌, ◌==◌, [], ◌∷◌, length, take, refl, ap, sym, ◌∙◌, arith, Option, Some, Bool, true, false, slice_get, ◌⊎◌, inl, inr, cond}
 use Rattle.std.specs.Prelude.{find, count_by}
 use Rattle.std.specs.List.{range_with_len}
 use Rattle.std.proofs.lemmas.Bool.{ne_eqb, eq-eqb}
 use Rattle.byte_core.specs.Number.{bytes_at}
-use Rattle.byte_core.proofs.Standing.{StandsAt, stands_left, bytes_stand}
-use Rattle.object_core.specs.LinkTable.{ElfTable, ElfTableSection, ElfRelocation}
-use Rattle.image_read.specs.ElfFile.{ElfHeader, header_of, ElfSectionRow, section_row, symbol_table, row_numbers, entries, ElfRelocationRow, relocation_row, relocation_row_at}
+use Rattle.byte_core.proofs.Standing.{stands_left, bytes_stand}
+use Rattle.object_core.specs.LinkTable.{ElfTable, ElfTableSection}
+use Rattle.image_read.specs.ElfFile.{ElfHeader, header_of, ElfSectionRow, section_row, symbol_table, entries, relocation_row, relocation_row_at}
 use Rattle.image_read.specs.ElfImage.{IsRelocations, IsElf}
-use Rattle.object_elf.specs.Layout.{Part, is_relocated, symbol_table_row, parts_of, relocation_part, symbol_part, headers_start, file_length}
-use Rattle.object_elf.specs.ElfHolds.{ElfHolds, header_for, row_for, part_offset, record_for, relocations_row}
-use Rattle.object_elf.specs.File.{header_bytes, header_fields, elf_file}
+use Rattle.object_elf.specs.Layout.{is_relocated, symbol_table_row, relocation_part}
+use Rattle.object_elf.specs.ElfHolds.{ElfHolds, row_for, part_offset, record_for, relocations_row}
+use Rattle.object_elf.specs.File.{elf_file}
 use Rattle.object_elf.specs.Fitting.{FitsElf}
 use Rattle.object_elf.proofs.Lists.{get_exists, get_within}
-use Rattle.object_elf.proofs.PartCases.{front_count, PartCase, part_case, Relocates, length-parts_of}
+use Rattle.object_elf.proofs.PartCases.{part_case, length-parts_of}
 use Rattle.object_elf.proofs.Places.{header_here, length-elf_file}
 use Rattle.object_elf.proofs.SectionRows.{section_row_here, null_section_here}
 use Rattle.object_elf.proofs.SymbolRows.{symbol_row_here, null_symbol_here}

@@ -1,6 +1,6 @@
 -- Answers that are judged by the limits.
-use Rattle.std.proofs.Common.{◌≡◌, ℕ, ◌<◌, ◌≤◌, ◌^◌, refl, ap, sym, ◌∙◌, arith, Bool, true, false, cond, Option, Some, None, Result, Ok, Err}
-use Rattle.std.specs.Prelude.{nat_le, IfErr, OnOk, IfSome}
+use Rattle.std.proofs.Common.{◌≡◌, ℕ, ◌<◌, ◌^◌, refl, ap, Bool, true, false, cond, Option, Some, None, Result, Ok, Err}
+use Rattle.std.specs.Prelude.{nat_le, IfSome}
 use Rattle.std.specs.Option.{option_or}
 use Rattle.std.proofs.lemmas.Bool.{leb-false}
 use Rattle.object_core.specs.declared.error.EmitError.{EmitError}
@@ -9,8 +9,8 @@ use Rattle.object_core.specs.declared.error.What.TheVariants.{Sections, Symbols,
 use Rattle.object_core.specs.Object.{ObjectData}
 use Rattle.object_core.specs.ElfRows.{elf_table_of}
 use Rattle.object_elf.specs.Counts.{Counts, elf_counts}
-use Rattle.object_elf.specs.Limits.{limit_if, limit_cause, TellsLimit}
-use Rattle.object_elf.specs.PlainCounts.{IsJudged, IsWithinLimits, plain_counts}
+use Rattle.object_elf.specs.Limits.{limit_if, limit_cause, IsJudged, IsWithinLimits}
+use Rattle.object_elf.specs.PlainCounts.{plain_counts}
 use Rattle.object_elf.proofs.Tables.{counts_are}
 
 -- -- what no limit means

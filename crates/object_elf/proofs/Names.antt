@@ -1,16 +1,15 @@
 -- Names read from a string section.
-use Rattle.std.proofs.Common.{◌≡◌, ℕ, zero, suc, ◌+◌, ◌-◌, ◌*◌, ◌<◌, ◌≤◌, ◌==◌, List, [], ◌∷◌, ◌++◌, length, take, map, refl, ap, sym, ◌∙◌, arith, length-append, Option, Some, None, Bool, true, false, slice_get, codes}
-use Rattle.std.specs.Prelude.{flat_map, sum_by, filter}
-use Rattle.std.specs.List.{list_any, enumerate_from}
+use Rattle.std.proofs.Common.{◌≡◌, ℕ, ◌+◌, List, [], ◌∷◌, take, refl, arith, length-append, Some, slice_get}
+use Rattle.std.specs.Prelude.{flat_map}
 use Rattle.byte_core.specs.Number.{text_at}
-use Rattle.byte_core.proofs.Standing.{StandsAt, stands_whole, stands_behind, stands_within, stands_inside, text_stands, row_stands_behind}
-use Rattle.object_core.specs.LinkTable.{ElfTable, ElfTableSection}
-use Rattle.object_elf.specs.Layout.{Part, with_zero, string_bytes_of, strings_size, name_place, relocation_name, relocation_part, section_names, parts_of}
-use Rattle.object_elf.specs.Fitting.{FitsElf, FitsSection, IsText}
+use Rattle.byte_core.proofs.Standing.{StandsAt, stands_behind, stands_within, stands_inside, text_stands, row_stands_behind}
+use Rattle.object_core.specs.LinkTable.{ElfTable}
+use Rattle.object_elf.specs.Layout.{Part, with_zero, string_bytes_of, strings_size, name_place, section_names, parts_of}
+use Rattle.object_elf.specs.Fitting.{FitsElf, IsText}
 use Rattle.object_elf.proofs.Lists.{get_map}
 use Rattle.object_elf.proofs.Parts.{length-with_zeros, length-string_bytes_of}
 use Rattle.object_elf.specs.PartView.{part_name}
-use Rattle.object_elf.proofs.PartCases.{names_of_parts, PartCase, part_case, Relocates}
+use Rattle.object_elf.proofs.PartCases.{names_of_parts, PartCase, Relocates}
 use Rattle.object_elf.proofs.PartCases.PartCase.{is_content, is_note, is_relocations, is_symbols, is_symbol_strings, is_section_strings}
 
 name_stands : (names : List (List ℕ)) (k : ℕ) (name : List ℕ) → slice_get names k ≡ Some name → StandsAt (string_bytes_of names) (with_zero name) (name_place names k)

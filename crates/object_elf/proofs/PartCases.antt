@@ -1,12 +1,12 @@
 -- Which part stands at which place.
-use Rattle.std.proofs.Common.{◌≡◌, ℕ, zero, suc, ◌+◌, ◌-◌, ◌*◌, ◌<◌, ◌≤◌, ◌==◌, List, [], ◌∷◌, ◌++◌, length, take, map, refl, ap, sym, ◌∙◌, arith, length-append, Option, Some, None, Bool, true, false, not, slice_get, ◌⊎◌, inl, inr, cond, codes}
+use Rattle.std.proofs.Common.{◌≡◌, ℕ, zero, suc, ◌+◌, List, [], ◌∷◌, ◌++◌, length, take, map, refl, ap, arith, length-append, Some, Bool, true, false, slice_get, inl, inr, cond, codes}
 use Rattle.std.specs.Prelude.{filter, count_by}
 use Rattle.std.specs.List.{enumerate_from}
 use Rattle.std.proofs.lemmas.List.{length-map, map-append}
 use Rattle.std.proofs.lemmas.List.Sums.{sum_by-cons, length-filter}
 use Rattle.byte_core.specs.LaidOut.{Aligned}
 use Rattle.object_core.specs.LinkTable.{ElfTable, ElfTableSection}
-use Rattle.object_elf.specs.Layout.{Part, is_relocated, symbol_table_row, strings_size, section_names, symbol_names, content_part, note_part, relocation_part, relocation_name, symbol_part, string_part, parts_of}
+use Rattle.object_elf.specs.Layout.{Part, is_relocated, strings_size, section_names, symbol_names, content_part, note_part, relocation_part, relocation_name, symbol_part, string_part, parts_of}
 use Rattle.object_elf.specs.File.{section_contents, relocation_contents, symbol_contents, string_contents, contents_of}
 use Rattle.object_elf.specs.PartView.{part_name}
 use Rattle.object_elf.proofs.Lists.{get_left, get_right, get_append, get_map, get_map_from, get_filter}

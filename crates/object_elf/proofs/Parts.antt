@@ -1,16 +1,16 @@
 -- The parts of a file and their contents stand at the same places.
-use Rattle.std.proofs.Common.{◌≡◌, ℕ, zero, suc, ◌+◌, ◌-◌, ◌*◌, ◌<◌, ◌≤◌, ◌==◌, List, [], ◌∷◌, ◌++◌, length, take, map, refl, ap, sym, ◌∙◌, arith, length-append, Option, Some, None, Bool, true, false, not, slice_get, ◌⊎◌, inl, inr, cond}
+use Rattle.std.proofs.Common.{◌≡◌, ℕ, zero, suc, ◌+◌, ◌==◌, List, [], ◌∷◌, ◌++◌, length, take, map, refl, ap, sym, ◌∙◌, arith, length-append, Some, Bool, true, false, not, slice_get, inl, inr, cond}
 use Rattle.std.specs.Prelude.{filter, flat_map, fold, sum_by}
 use Rattle.std.specs.List.{enumerate_from}
 use Rattle.std.specs.Int.{next_multiple_of}
 use Rattle.std.proofs.lemmas.List.Sums.{sum_by-cons}
-use Rattle.byte_core.specs.LaidOut.{Aligned, end_behind, end_of_aligned, laid_out}
+use Rattle.byte_core.specs.LaidOut.{Aligned, end_behind, end_of_aligned}
 use Rattle.byte_core.proofs.Standing.{length-rows}
-use Rattle.object_core.specs.LinkTable.{ElfTable, ElfTableSection, ElfTableSymbol, ElfRelocation}
-use Rattle.object_elf.specs.Layout.{Part, is_relocated, with_zero, string_bytes_of, strings_size, section_names, symbol_names, content_part, note_part, relocation_part, symbol_part, string_part, parts_of, is_stored, start_after, end_after, end_of_parts, start_of}
+use Rattle.object_core.specs.LinkTable.{ElfTable, ElfTableSection, ElfTableSymbol}
+use Rattle.object_elf.specs.Layout.{Part, is_relocated, with_zero, string_bytes_of, strings_size, section_names, symbol_names, content_part, note_part, relocation_part, symbol_part, string_part, parts_of, is_stored, start_after, end_after}
 use Rattle.object_elf.specs.ElfHolds.{null_symbol, record_for}
 use Rattle.object_elf.specs.File.{section_contents, relocation_contents, relocation_row_bytes, symbol_row_bytes, symbol_rows_from, symbol_contents, string_contents, contents_of}
-use Rattle.object_elf.specs.Fitting.{FitsElf, FitsSection, HasContents}
+use Rattle.object_elf.specs.Fitting.{FitsElf, HasContents}
 use Rattle.object_elf.proofs.Rows.{length-symbol_row_bytes, length-relocation_row_bytes}
 
 -- contents stand where the layout puts their part

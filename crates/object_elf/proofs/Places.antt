@@ -1,19 +1,19 @@
 -- Where header, contents, padding and section headers stand in the file of a table.
-use Rattle.std.proofs.Common.{◌≡◌, ℕ, zero, suc, ◌+◌, ◌-◌, ◌*◌, ◌^◌, ◌<◌, ◌≤◌, ◌==◌, List, [], ◌∷◌, ◌++◌, length, take, map, refl, ap, sym, ◌∙◌, arith, length-append, Option, Some, None, Bool, true, false, not, slice_get, ◌⊎◌, inl, inr, replicate}
-use Rattle.std.specs.Prelude.{flat_map, fold, sum_by}
+use Rattle.std.proofs.Common.{◌≡◌, ℕ, suc, ◌+◌, ◌-◌, List, [], ◌∷◌, ◌++◌, length, take, refl, ap, sym, ◌∙◌, arith, length-append, Some, slice_get, replicate}
+use Rattle.std.specs.Prelude.{flat_map}
 use Rattle.std.specs.Int.{next_multiple_of}
 use Rattle.byte_core.specs.Fields.{field_bytes}
 use Rattle.byte_core.specs.LaidOut.{Aligned, end_of_aligned, laid_out}
-use Rattle.byte_core.proofs.Standing.{StandsAt, stands_front, stands_behind, stands_left, stands_right, stands_inside, row_stands, length-rows, length-field_bytes}
-use Rattle.byte_core.proofs.LaidOut.{zeros, length-zeros, length-laid_out, contents_stand, StandAligned}
+use Rattle.byte_core.proofs.Standing.{StandsAt, stands_front, stands_behind, stands_left, stands_right, length-rows, length-field_bytes}
+use Rattle.byte_core.proofs.LaidOut.{zeros, length-zeros, length-laid_out, contents_stand}
 use Rattle.object_core.specs.LinkTable.{ElfTable}
-use Rattle.image_read.specs.ElfFile.{ElfHeader, ElfSectionRow}
-use Rattle.object_elf.specs.Layout.{Part, parts_of, start_after, end_after, end_of_parts, start_of, headers_start, file_length}
+use Rattle.image_read.specs.ElfFile.{ElfHeader}
+use Rattle.object_elf.specs.Layout.{Part, parts_of, end_after, end_of_parts, start_of, headers_start, file_length}
 use Rattle.object_elf.specs.ElfHolds.{header_for}
 use Rattle.object_elf.specs.File.{header_fields, header_bytes, section_row_bytes, section_rows, section_rows_from, contents_of, elf_file}
 use Rattle.object_elf.specs.Fitting.{FitsElf}
 use Rattle.object_elf.proofs.Rows.{length-section_row_bytes}
-use Rattle.object_elf.proofs.Parts.{FitsPart, FitParts, fit_take, fit_end, fit_part, fit_table}
+use Rattle.object_elf.proofs.Parts.{FitsPart, fit_take, fit_end, fit_part, fit_table}
 
 -- ---- the pieces of a file of any parts
 

@@ -1,23 +1,18 @@
 -- The file of a table meets the conditions of reading: header, sections and their names.
-use Rattle.std.proofs.Common.{◌≡◌, ◌≢◌, ℕ, zero, suc, ◌+◌, ◌-◌, ◌*◌, ◌/◌, ◌%◌, ◌^◌, ◌<◌, ◌≤◌, ◌==◌, List, [], ◌∷◌, ◌++◌, length, take, map, refl, ap, sym, ◌∙◌, arith, length-append, Option, Some, None, Bool, true, false, not, ◌&&◌, slice_get, ◌⊎◌, inl, inr, lit<, subst, codes}
-use Rattle.std.specs.Prelude.{IsTrue, IsSome}
-use Rattle.std.proofs.lemmas.Bool.{and_parts}
-use Rattle.byte_core.specs.Number.{bytes_at, text_at}
-use Rattle.byte_core.proofs.Standing.{StandsAt, stands_inside}
-use Rattle.object_core.specs.LinkTable.{ElfTable, ElfTableSection}
-use Rattle.image_read.specs.ElfFile.{ElfHeader, header_of, ElfSectionRow, section_row, section_row_at, section_name, text_in, has_bytes}
-use Rattle.image_read.specs.ElfImage.{IsStrings, IsSection}
-use Rattle.object_elf.specs.Layout.{Part, symbol_table_row, strings_size, name_place, section_names, symbol_names, parts_of, is_stored, start_of, headers_start, content_part, string_part}
+use Rattle.std.proofs.Common.{◌≡◌, ℕ, zero, suc, ◌+◌, ◌*◌, ◌<◌, ◌≤◌, List, length, refl, ap, sym, ◌∙◌, arith, Some, slice_get, lit<, codes}
+use Rattle.byte_core.proofs.Standing.{StandsAt}
+use Rattle.object_core.specs.LinkTable.{ElfTable}
+use Rattle.image_read.specs.ElfFile.{ElfHeader, header_of, ElfSectionRow, section_row, section_row_at, section_name}
+use Rattle.image_read.specs.ElfImage.{IsStrings}
+use Rattle.object_elf.specs.Layout.{Part, symbol_table_row, strings_size, section_names, parts_of, start_of, headers_start, string_part}
 use Rattle.object_elf.specs.ElfHolds.{header_for, row_for, row_at, part_offset}
 use Rattle.object_elf.specs.File.{elf_file}
-use Rattle.object_elf.specs.Fitting.{FitsElf, FitsSection, HasContents}
-use Rattle.object_elf.proofs.Lists.{get_exists, get_right}
+use Rattle.object_elf.specs.Fitting.{FitsElf}
+use Rattle.object_elf.proofs.Lists.{get_exists}
 use Rattle.object_elf.proofs.Rows.{FitsHeader, header_stands}
-use Rattle.object_elf.specs.PartView.{part_name}
-use Rattle.object_elf.proofs.PartCases.{front_count, PartCase, part_case, Relocates, length-parts_of, part_at_symbol_strings, part_at_section_strings}
-use Rattle.object_elf.proofs.PartCases.PartCase.{is_content, is_note, is_relocations, is_symbols, is_symbol_strings, is_section_strings}
-use Rattle.object_elf.proofs.Places.{header_here, length-elf_file}
-use Rattle.object_elf.proofs.SectionRows.{section_row_here, PartHere, part_here}
+use Rattle.object_elf.proofs.PartCases.{front_count, part_case, length-parts_of, part_at_section_strings}
+use Rattle.object_elf.proofs.Places.{header_here}
+use Rattle.object_elf.proofs.SectionRows.{section_row_here}
 use Rattle.object_elf.proofs.Contents.{section_texts_stand}
 use Rattle.object_elf.proofs.Names.{name_here, part_text, part_name_get}
 

@@ -1,26 +1,22 @@
 -- The file of a table meets the conditions of reading: sections, symbol table and relocations.
-use Rattle.std.proofs.Common.{◌≡◌, ◌≢◌, ℕ, zero, suc, ◌+◌, ◌-◌, ◌*◌, ◌/◌, ◌%◌, ◌^◌, ◌<◌, ◌≤◌, ◌==◌, List, [], ◌∷◌, ◌++◌, length, take, map, refl, ap, sym, ◌∙◌, arith, Option, Some, None, Bool, true, false, not, ◌&&◌, slice_get, ◌⊎◌, inl, inr, lit<, lit≤, subst, codes}
-use Rattle.std.specs.Prelude.{IsTrue, IsSome, find, count_by}
-use Rattle.std.specs.List.{range_with_len}
-use Rattle.std.proofs.lemmas.Bool.{and_parts, ne_eqb, eq-eqb}
-use Rattle.byte_core.specs.Number.{bytes_at, text_at}
-use Rattle.byte_core.proofs.Standing.{StandsAt, stands_inside}
-use Rattle.object_core.specs.LinkTable.{ElfTable, ElfTableSection, ElfTableSymbol, ElfRelocation}
-use Rattle.image_read.specs.ElfFile.{ElfHeader, header_of, ElfSectionRow, section_row, section_row_at, section_name, has_bytes, ElfSymbolRow, symbol_row, symbol_row_at, symbol_name, symbol_table, row_numbers, entries, ElfRelocationRow, relocation_row, relocation_row_at}
-use Rattle.image_read.specs.ElfImage.{IsStrings, IsSection, IsSymbol, IsSymbolTable, IsRelocations, IsElf}
-use Rattle.object_elf.specs.Layout.{Part, is_relocated, symbol_table_row, strings_size, name_place, section_names, symbol_names, parts_of, is_stored, start_of, headers_start, content_part, symbol_part, string_part, relocation_part, file_length}
-use Rattle.object_elf.specs.ElfHolds.{header_for, row_for, row_at, part_offset, symbol_for, record_for, relocations_row}
+use Rattle.std.proofs.Common.{◌≡◌, ◌≢◌, ℕ, zero, suc, ◌+◌, ◌*◌, ◌/◌, ◌<◌, ◌≤◌, ◌==◌, length, refl, ap, sym, ◌∙◌, arith, Some, true, not, slice_get, ◌⊎◌, inl, inr, subst, codes}
+use Rattle.std.proofs.lemmas.Bool.{and_parts}
+use Rattle.byte_core.proofs.Standing.{stands_inside}
+use Rattle.object_core.specs.LinkTable.{ElfTable, ElfTableSection, ElfTableSymbol}
+use Rattle.image_read.specs.ElfFile.{header_of, ElfSectionRow, section_row, symbol_row, symbol_row_at, symbol_name, entries}
+use Rattle.image_read.specs.ElfImage.{IsStrings, IsSection, IsSymbol, IsSymbolTable}
+use Rattle.object_elf.specs.Layout.{Part, symbol_table_row, strings_size, symbol_names, parts_of, is_stored, start_of, symbol_part, string_part}
+use Rattle.object_elf.specs.ElfHolds.{row_for, part_offset, symbol_for}
 use Rattle.object_elf.specs.File.{elf_file}
-use Rattle.object_elf.specs.Fitting.{FitsElf, FitsSection, FitsSymbol, HasContents}
-use Rattle.object_elf.proofs.Lists.{get_exists, get_within, get_map}
+use Rattle.object_elf.specs.Fitting.{FitsElf, HasContents}
+use Rattle.object_elf.proofs.Lists.{get_exists, get_map}
 use Rattle.object_elf.proofs.PartCases.{front_count, PartCase, part_case, Relocates, length-parts_of, part_at_symbols, part_at_symbol_strings}
 use Rattle.object_elf.proofs.PartCases.PartCase.{is_content, is_note, is_relocations, is_symbols, is_symbol_strings, is_section_strings}
-use Rattle.object_elf.proofs.Places.{length-elf_file}
 use Rattle.object_elf.proofs.SectionRows.{PartHere, part_here}
 use Rattle.object_elf.proofs.SymbolRows.{symbol_row_here}
-use Rattle.object_elf.proofs.Contents.{symbol_texts_stand, relocation_here}
+use Rattle.object_elf.proofs.Contents.{symbol_texts_stand}
 use Rattle.object_elf.proofs.Names.{name_here}
-use Rattle.object_elf.proofs.Reading.{RowOf, row_of, row_of_part, shnum_is, section_row_is, section_name_is, strings_row}
+use Rattle.object_elf.proofs.Reading.{row_of, row_of_part, shnum_is, section_row_is, section_name_is, strings_row}
 
 -- ---- the types of the parts
 

@@ -1,18 +1,18 @@
 -- Loops over the relocations and rows of an object.
-use Rattle.std.proofs.Common.{◌≡◌, ℕ, ◌+◌, ◌-◌, ◌<◌, ◌≤◌, ◌^◌, List, [], ◌∷◌, ◌++◌, length, take, get_or, map, refl, ap, sym, ◌∙◌, arith, Bool, true, false, not, slice_get, Some, ◌⊎◌, inl, inr, append-nil, cond, replicate, length-append, ◌==◌}
-use Rattle.std.specs.Prelude.{flat_map, filter, count_by}
+use Rattle.std.proofs.Common.{◌≡◌, ℕ, ◌+◌, ◌-◌, ◌<◌, ◌≤◌, List, [], ◌∷◌, ◌++◌, length, take, get_or, map, refl, ap, sym, ◌∙◌, arith, Bool, true, false, not, slice_get, Some, ◌⊎◌, inl, inr, append-nil, cond, replicate, length-append, ◌==◌}
+use Rattle.std.specs.Prelude.{filter, count_by}
 use Rattle.std.specs.Int.{next_multiple_of}
 use Rattle.std.proofs.lemmas.List.{map-append}
 use Rattle.std.proofs.lemmas.List.Sums.{sum_by-take-le, count_by_more_yes, count_by_more_no, length-filter}
 use Rattle.std.proofs.lemmas.List.Filters.{length-filter_both}
-use Rattle.byte_core.specs.LaidOut.{Aligned, LaysOut, laid_out}
-use Rattle.byte_core.proofs.LaidOut.{lays_more, lays_one, zeros}
+use Rattle.byte_core.specs.LaidOut.{Aligned, LaysOut}
+use Rattle.byte_core.proofs.LaidOut.{lays_more, lays_one}
 use Rattle.std.proofs.Math.Dec.{eqb-suc-zero}
 use Rattle.object_core.specs.declared.relocation.Relocation.{Relocation}
 use Rattle.object_core.specs.declared.symbol.Symbol.{Symbol}
 use Rattle.object_core.specs.Object.{SectionData, is_local, is_global}
 use Rattle.object_core.specs.ElfRows.{row_in}
-use Rattle.object_elf.specs.Writing.{contents_at, FitRecords, records_at, has_relocations, record_bytes_by}
+use Rattle.object_elf.specs.Writing.{contents_at, FitRecords, records_at, has_relocations}
 use Rattle.object_elf.proofs.Lists.{item_get, item_take, get_left, get_right}
 
 -- ---- the rows of symbols

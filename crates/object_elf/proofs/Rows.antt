@@ -1,9 +1,8 @@
 -- The rows of a file, read where they were written.
-use Rattle.std.proofs.Common.{◌≡◌, ℕ, ◌+◌, ◌-◌, ◌*◌, ◌^◌, ◌<◌, ◌≤◌, List, [], ◌∷◌, ◌++◌, length, Some, refl, sym, ◌∙◌, ap, arith, add-zero, lit<}
+use Rattle.std.proofs.Common.{◌≡◌, ℕ, ◌+◌, ◌^◌, ◌<◌, List, length, refl, arith, add-zero}
 use Rattle.std.specs.Prelude.{ℤ, pos, negsuc, FitsSigned}
-use Rattle.std.specs.Int.{cast_unsigned, cast_signed, w64}
+use Rattle.std.specs.Int.{cast_unsigned, w64}
 use Rattle.std.proofs.lemmas.Int.{to_z-of_z}
-use Rattle.byte_core.specs.Number.{number_at, bytes_at}
 use Rattle.byte_core.specs.Fields.{field_bytes}
 use Rattle.byte_core.proofs.Standing.{StandsAt, stands_left, stands_right, bytes_stand, field_number, length-field_bytes}
 use Rattle.image_read.specs.ElfFile.{ElfHeader, header_of, ElfSectionRow, section_row_at, ElfSymbolRow, symbol_row_at, ElfRelocationRow, relocation_row_at}

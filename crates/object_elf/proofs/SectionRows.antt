@@ -1,22 +1,22 @@
 -- The section headers of the file of a table.
-use Rattle.std.proofs.Common.{◌≡◌, ℕ, zero, suc, ◌+◌, ◌-◌, ◌*◌, ◌^◌, ◌<◌, ◌≤◌, ◌==◌, List, [], ◌∷◌, ◌++◌, length, take, map, refl, ap, sym, ◌∙◌, arith, length-append, Option, Some, None, Bool, true, false, not, slice_get, ◌⊎◌, inl, inr, lit<}
-use Rattle.std.specs.Prelude.{flat_map, fold, sum_by, count_by}
-use Rattle.std.proofs.lemmas.List.Sums.{sum_by-cons, sum_by-take-le, count_by-le-length}
+use Rattle.std.proofs.Common.{◌≡◌, ℕ, zero, suc, ◌+◌, ◌*◌, ◌^◌, ◌<◌, ◌≤◌, List, [], ◌∷◌, length, take, map, refl, ap, arith, Some, true, slice_get, inl, inr, lit<}
+use Rattle.std.specs.Prelude.{fold, sum_by}
+use Rattle.std.proofs.lemmas.List.Sums.{sum_by-cons, sum_by-take-le}
 use Rattle.byte_core.specs.LaidOut.{Aligned}
 use Rattle.byte_core.proofs.Standing.{StandsAt, stands_inside, row_stands}
 use Rattle.object_core.specs.LinkTable.{ElfTable, ElfTableSection}
-use Rattle.image_read.specs.ElfFile.{ElfSectionRow, section_row_at}
-use Rattle.object_elf.specs.Layout.{Part, is_relocated, strings_size, name_place, section_names, symbol_names, symbol_table_row, parts_of, is_stored, start_after, end_after, end_of_parts, start_of, headers_start, file_length, content_part, note_part, relocation_part, symbol_part, string_part}
+use Rattle.image_read.specs.ElfFile.{ElfSectionRow}
+use Rattle.object_elf.specs.Layout.{Part, strings_size, name_place, section_names, parts_of, is_stored, start_after, end_after, end_of_parts, start_of, headers_start, content_part, symbol_part}
 use Rattle.object_elf.specs.ElfHolds.{null_section, row_for, row_at, part_offset}
-use Rattle.object_elf.specs.File.{section_row_with, section_row_bytes, section_rows, section_rows_from, contents_of, elf_file, section_contents, relocation_contents}
-use Rattle.object_elf.specs.Fitting.{FitsElf, FitsSection, HasContents}
+use Rattle.object_elf.specs.File.{section_row_with, section_row_bytes, section_rows, section_rows_from, contents_of, elf_file}
+use Rattle.object_elf.specs.Fitting.{FitsElf, FitsSection}
 use Rattle.object_elf.proofs.Lists.{get_within}
 use Rattle.object_elf.proofs.Rows.{FitsSectionRow, section_row_stands, length-section_row_bytes}
 use Rattle.object_elf.proofs.Parts.{FitsPart, fit_contents, fit_table}
 use Rattle.object_elf.specs.PartView.{part_name}
 use Rattle.object_elf.proofs.PartCases.{front_count, PartCase, part_case, Relocates, names_of_parts, length-parts_of}
 use Rattle.object_elf.proofs.PartCases.PartCase.{is_content, is_note, is_relocations, is_symbols, is_symbol_strings, is_section_strings}
-use Rattle.object_elf.proofs.Places.{length-elf_file, rows_here, stands_in, StandsIn}
+use Rattle.object_elf.proofs.Places.{length-elf_file, rows_here, stands_in}
 
 abbrev name_size : List ℕ → ℕ
 name_size name = length name + 1

@@ -1,11 +1,11 @@
 -- The symbol table of the file of a table.
-use Rattle.std.proofs.Common.{◌≡◌, ℕ, zero, suc, ◌+◌, ◌-◌, ◌*◌, ◌^◌, ◌<◌, ◌≤◌, List, [], ◌∷◌, ◌++◌, length, take, map, refl, ap, sym, ◌∙◌, arith, Option, Some, None, slice_get, ◌⊎◌, inl, inr, lit<}
-use Rattle.std.specs.Prelude.{flat_map, sum_by}
+use Rattle.std.proofs.Common.{◌≡◌, ℕ, zero, suc, ◌+◌, ◌*◌, ◌^◌, ◌<◌, ◌≤◌, List, [], ◌∷◌, length, take, map, refl, ap, arith, Some, slice_get, ◌⊎◌, inl, inr, lit<}
+use Rattle.std.specs.Prelude.{sum_by}
 use Rattle.std.proofs.lemmas.List.Sums.{sum_by-cons}
 use Rattle.byte_core.proofs.Standing.{StandsAt, row_stands}
 use Rattle.object_core.specs.LinkTable.{ElfTable, ElfTableSymbol}
-use Rattle.image_read.specs.ElfFile.{ElfSymbolRow, symbol_row_at}
-use Rattle.object_elf.specs.Layout.{name_place, strings_size, symbol_names, symbol_table_row}
+use Rattle.image_read.specs.ElfFile.{symbol_row_at}
+use Rattle.object_elf.specs.Layout.{symbol_names, symbol_table_row}
 use Rattle.object_elf.specs.ElfHolds.{null_symbol, symbol_for, part_offset}
 use Rattle.object_elf.specs.File.{symbol_row_with, symbol_row_bytes, symbol_rows_from, symbol_contents, elf_file}
 use Rattle.object_elf.specs.Fitting.{FitsElf, FitsSymbol}

@@ -1,17 +1,15 @@
 -- The table of an object, by its sections and symbols.
-use Rattle.std.proofs.Common.{◌≡◌, ℕ, zero, suc, ◌+◌, ◌-◌, ◌*◌, ◌^◌, ◌<◌, ◌≤◌, ◌==◌, List, [], ◌∷◌, ◌++◌, length, take, map, refl, ap, sym, ◌∙◌, arith, length-append, Bool, true, false, not, cond, slice_get, Some, codes}
-use Rattle.std.specs.Prelude.{filter, count_by, sum_by, flat_map}
+use Rattle.std.proofs.Common.{◌≡◌, ℕ, ◌+◌, ◌==◌, List, [], ◌∷◌, ◌++◌, length, map, refl, ap, sym, ◌∙◌, arith, length-append, Bool, true, false, not, cond, codes}
+use Rattle.std.specs.Prelude.{filter, count_by, sum_by}
 use Rattle.std.specs.List.{enumerate_from}
 use Rattle.std.proofs.lemmas.List.{length-map, map-append}
 use Rattle.std.proofs.lemmas.List.Sums.{sum_by-cons, sum_by-append, length-filter}
-use Rattle.byte_core.specs.LaidOut.{Aligned}
 use Rattle.object_core.specs.declared.symbol.Symbol.{Symbol}
-use Rattle.object_core.specs.declared.relocation.Relocation.{Relocation}
 use Rattle.object_core.specs.Object.{SectionData, ObjectData, is_local, is_global}
-use Rattle.object_core.specs.ElfRows.{elf_symbol, elf_section, elf_relocation, elf_table_of, row_in}
+use Rattle.object_core.specs.ElfRows.{elf_symbol, elf_section, elf_relocation, elf_table_of}
 use Rattle.object_core.specs.LinkTable.{ElfTable, ElfTableSection, ElfTableSymbol}
-use Rattle.object_elf.specs.Layout.{Part, is_relocated, symbol_table_row, strings_size, section_names, symbol_names, content_part, note_part, relocation_part, relocation_name, symbol_part, string_part, parts_of}
-use Rattle.object_elf.specs.Counts.{Counts, elf_counts}
+use Rattle.object_elf.specs.Layout.{is_relocated, symbol_table_row, strings_size, section_names, symbol_names, content_part, note_part, relocation_part, relocation_name, symbol_part, string_part, parts_of}
+use Rattle.object_elf.specs.Counts.{elf_counts}
 use Rattle.object_elf.specs.Writing as rows
 use Rattle.object_elf.specs.Writing.{has_relocations, chosen}
 use Rattle.object_elf.specs.PartView.{symbol_part_of, content_part_of, relocation_part_of, relocation_parts_from, has_records}

@@ -1,5 +1,5 @@
 -- What a contract sees of the parts that the writer lists.
-use Rattle.std.specs.Prelude.{ℕ, ◌+◌, ◌*◌, ◌==◌, Bool, not, List, ◌++◌, length, map, filter, flat_map, replicate, ◌-◌, codes}
+use Rattle.std.specs.Prelude.{ℕ, ◌+◌, ◌*◌, Bool, List, ◌++◌, length, map, filter, flat_map, replicate, ◌-◌, codes}
 use Rattle.std.specs.List.{enumerate_from}
 use Rattle.std.specs.Int.{next_multiple_of}
 use Rattle.object_core.specs.Object.{SectionData}

@@ -1,10 +1,8 @@
 -- The numbers that are compared with the limits, by the sections and symbols of an object.
-use Rattle.std.specs.Prelude.{◌≡◌, ℕ, ◌+◌, ◌<◌, ◌^◌, List, length, count_by, sum_by, Option, Result, Ok, Err, IfErr, IfSome, OnOk, None, if◌then◌else◌}
-use Rattle.object_core.specs.declared.error.EmitError.{EmitError}
+use Rattle.std.specs.Prelude.{ℕ, ◌+◌, length, count_by, sum_by, if◌then◌else◌}
 use Rattle.object_core.specs.declared.symbol.Symbol.{Symbol}
 use Rattle.object_core.specs.Object.{SectionData, ObjectData}
 use Rattle.object_elf.specs.Counts.{Counts}
-use Rattle.object_elf.specs.Limits.{TellsLimit}
 use Rattle.object_elf.specs.Writing.{has_relocations}
 
 abbrev pub symbol_name_size : Symbol → ℕ
@@ -23,17 +21,3 @@ plain_counts o =
       contents = o.content_sum;
       names = 1 + sum_by symbol_name_size o.symbols + (43 + sum_by section_name_size o.sections);
     }
-
--- An answer is judged by the first limit that is reached: Ok where none is, else that limit. A number of sections that
--- no u64 holds is want of memory.
-pub record IsJudged {A : Type 0} (result : Result A EmitError) (counts : Counts) (cause : Option EmitError) : Type 0 where
-  pub ok : OnOk result (cause ≡ None)
-  pub err : IfErr result (λ e. TellsLimit e cause)
-  pub told : counts.sections < 2 ^ 64 → IfSome cause (λ e. result ≡ Err e)
-
--- no limit is reached
-pub record IsWithinLimits (counts : Counts) : Type 0 where
-  pub sections : counts.sections < 65280
-  pub symbols : counts.symbols < 2 ^ 32
-  pub contents : counts.contents < 2 ^ 63
-  pub names : counts.names < 2 ^ 32

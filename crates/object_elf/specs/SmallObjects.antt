@@ -1,5 +1,5 @@
 -- Two small objects, for the tests.
-use Rattle.std.specs.Prelude.{ℕ, List, [], ◌∷◌, false, codes}
+use Rattle.std.specs.Prelude.{[], ◌∷◌, false, codes}
 use Rattle.ir_core.specs.declared.target.Architecture.TheVariants.{X86_64}
 use Rattle.ir_core.specs.declared.target.BinaryFormat.TheVariants.{Elf}
 use Rattle.object_core.specs.declared.kinds.StandardSection.TheVariants as standard

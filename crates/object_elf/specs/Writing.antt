@@ -1,17 +1,17 @@
 -- What the functions of the writer append, in the terms of an object.
-use Rattle.std.specs.Prelude.{◌≡◌, ℕ, ◌+◌, ◌*◌, ◌<◌, ◌≤◌, ◌^◌, Bool, true, false, List, [], ◌∷◌, ◌++◌, length, map, filter, flat_map, sum_by, slice_get, slice_index, not, ◌==◌, Some, FitsSigned, if◌then◌else◌}
+use Rattle.std.specs.Prelude.{◌≡◌, ℕ, ◌+◌, ◌<◌, ◌^◌, Bool, true, false, List, [], ◌∷◌, ◌++◌, length, map, filter, flat_map, sum_by, slice_get, slice_index, not, ◌==◌, Some, FitsSigned, if◌then◌else◌}
 use Rattle.std.specs.Int.{w64}
 use Rattle.byte_core.specs.LaidOut.{Aligned}
 use Rattle.object_core.specs.declared.symbol.Symbol.{Symbol}
 use Rattle.object_core.specs.declared.relocation.Relocation.{Relocation}
-use Rattle.object_core.specs.Object.{SectionData, ObjectData, is_local, is_global, is_in_section}
+use Rattle.object_core.specs.Object.{SectionData, ObjectData, is_local, is_global}
 use Rattle.object_core.specs.Appending.{AreSections}
 use Rattle.object_core.specs.ElfRows.{elf_shndx, elf_symbol, elf_section, elf_relocation, elf_type_of, row_in}
 use Rattle.object_core.specs.LinkTable.{ElfTableSymbol, ElfTableSection}
 use Rattle.image_read.specs.ElfFile.{ElfHeader, ElfRelocationRow}
-use Rattle.object_elf.specs.Layout.{is_relocated, with_zero}
+use Rattle.object_elf.specs.Layout.{with_zero}
 use Rattle.object_elf.specs.ElfHolds.{record_for}
-use Rattle.object_elf.specs.File.{symbol_contents, string_contents, section_contents, relocation_contents, relocation_row_bytes}
+use Rattle.object_elf.specs.File.{symbol_contents, string_contents, section_contents, relocation_row_bytes}
 
 -- -- symbols
 

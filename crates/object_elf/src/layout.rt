@@ -4,7 +4,8 @@ ghost use Rattle.std.specs.Prelude.{◌≡◌, ℕ, ◌+◌, ◌*◌, ◌≤◌,
 ghost use Rattle.object_core.specs.ElfRows.{elf_table_of, elf_section_type, elf_section_flags, retain_flag};
 ghost use Rattle.object_core.specs.Object.{SectionData, is_local};
 ghost use Rattle.object_elf.specs.Layout.{end_after, end_of_parts, start_after, string_part, parts_of};
-ghost use Rattle.object_elf.specs.PlainCounts.{plain_counts, IsWithinLimits};
+ghost use Rattle.object_elf.specs.PlainCounts.{plain_counts};
+ghost use Rattle.object_elf.specs.Limits.{IsWithinLimits};
 ghost use Rattle.object_elf.specs.Writing.{has_relocations};
 ghost use Rattle.object_elf.specs.PartView.{part_view, symbol_part_of, content_part_of, relocation_part_of, relocation_parts_from};
 

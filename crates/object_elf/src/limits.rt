@@ -2,8 +2,8 @@
 
 ghost use Rattle.std.specs.Prelude.{◌≡◌, ◌+◌, ◌<◌, ◌≤◌, ◌^◌, length, count_by, sum_by};
 ghost use Rattle.object_elf.specs.Writing.{has_relocations};
-ghost use Rattle.object_elf.specs.Limits.{limit_cause};
-ghost use Rattle.object_elf.specs.PlainCounts.{plain_counts, symbol_name_size, section_name_size, IsJudged};
+ghost use Rattle.object_elf.specs.Limits.{limit_cause, IsJudged};
+ghost use Rattle.object_elf.specs.PlainCounts.{plain_counts, symbol_name_size, section_name_size};
 
 use object_core::{EmitError, Object, Section, Symbol, What};
 

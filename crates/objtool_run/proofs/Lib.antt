@@ -1,9 +1,7 @@
 pub mod Taking
 pub mod OneWord
 pub mod Keys
-pub mod CommandList
-pub mod Distinct
-pub mod Built
+pub mod EachOf
 pub mod Judging
 pub mod PartList
 pub mod Buildable

@@ -8,7 +8,7 @@ use Rattle.cranelift_module.specs.Call.{Call, declare_function, define_function}
 use Rattle.cranelift_object.specs.Commands.{IsPlainCall}
 use Rattle.image_build.specs.Built.{BuildPart, commands}
 use Rattle.objtool_run.specs.Form.{◌>>=◌, with_keys, text_at, items_at, u32_at, hex_at, has_keys_within}
-use Rattle.objtool_run.specs.Script.{linkage_of, declare_of, define_of, command_of, commands_of, part_of, part_with, one_part, is_built, default_signature}
+use Rattle.objtool_run.specs.Script.{part_of, one_part}
 
 pub one_part_refused : (vs : List Value) → (length vs ≡ 1 → ⊥) → one_part (items_view vs) ≡ None
 one_part_refused [] h = refl

@@ -54,3 +54,8 @@ has_keys_within keys d = option_map_or (keys_within keys) (as_object d) false
 
 abbrev pub with_keys : {A : Type 0} → List (List ℕ) → Data → Option A → Option A
 with_keys keys d form = if has_keys_within keys d then form else None
+
+-- what is read from each value of a list, where each gives something
+unfoldable pub each_of : {A : Type 0} → (Data → Option A) → Items → Option (List A)
+each_of read no_items = Some []
+each_of read (item d ds) = read d >>= λ a. each_of read ds >>= λ rest. Some (a ∷ rest)

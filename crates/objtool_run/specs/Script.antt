@@ -5,10 +5,8 @@ use Rattle.std.specs.Str.{bytes_eq, IsUtf8}
 use Rattle.serde_json.specs.Data.{Data, Items, no_items, item}
 use Rattle.serde_json.specs.Find.{as_array}
 use Rattle.serde_json.specs.Read.{read}
-use Rattle.ir_core.specs.Moments.{Moment, moments}
-use Rattle.ir_core.specs.Signature.{SignatureData}
-use Rattle.ir_core.specs.Target.{Target}
-use Rattle.ir_core.specs.declared.types.CallConv.TheVariants.{SystemV}
+use Rattle.ir_core.specs.Target.{Target, default_call_conv}
+use Rattle.ir_core.specs.declared.types.CallConv.{CallConv}
 use Rattle.ir_core.specs.declared.target.Architecture.TheVariants.{X86_64}
 use Rattle.ir_core.specs.declared.target.BinaryFormat.TheVariants.{Elf}
 use Rattle.ir_core.specs.declared.target.System.TheVariants as systems
@@ -18,28 +16,34 @@ use Rattle.cranelift_module.specs.declared.linkage.Linkage.TheVariants.{Import, 
 use Rattle.cranelift_module.specs.Call.{Call, declare_function, declare_anonymous_function, declare_data, declare_anonymous_data, define_function, define_data}
 use Rattle.cranelift_module.specs.LibraryNames.{usual_texts}
 use Rattle.image_build.specs.Built.{BuildPart, commands}
-use Rattle.objtool_run.specs.Form.{◌>>=◌, text_at, items_at, u32_at, hex_at, with_keys}
+use Rattle.objtool_run.specs.SignatureForm.{signature_at}
+use Rattle.objtool_run.specs.Form.{◌>>=◌, each_of, text_at, items_at, u32_at, hex_at, with_keys}
 
 -- -- commands
 
--- the linkages that are built so far
 abbrev pub linkage_of : List ℕ → Option Linkage
 linkage_of text =
     if bytes_eq text (codes "Import") then Some Import
     else if bytes_eq text (codes "Local") then Some Local
+    else if bytes_eq text (codes "Preemptible") then Some Preemptible
+    else if bytes_eq text (codes "Hidden") then Some Hidden
     else if bytes_eq text (codes "Export") then Some Export
     else None
 
--- the signature of a function that names none: that of the target's default convention
-abbrev pub default_signature : SignatureData
-default_signature = record { params = []; returns = []; call_conv = SystemV }
-
-unfoldable pub declare_of : Data → Option Call
-declare_of d = with_keys (codes "op" ∷ codes "name" ∷ codes "linkage" ∷ []) d do
+-- a declaration; where it names no signature, the function has the target's default convention
+unfoldable pub declare_of : CallConv → Data → Option Call
+declare_of convention d = with_keys (codes "op" ∷ codes "name" ∷ codes "linkage" ∷ codes "signature" ∷ []) d do
   name ← text_at (codes "name") d
   text ← text_at (codes "linkage") d
   linkage ← linkage_of text
-  Some (declare_function name linkage default_signature)
+  signature ← signature_at convention d
+  Some (declare_function name linkage signature)
+
+-- a declaration without a name
+unfoldable pub anonymous_of : CallConv → Data → Option Call
+anonymous_of convention d = with_keys (codes "op" ∷ codes "signature" ∷ []) d do
+  signature ← signature_at convention d
+  Some (declare_anonymous_function signature)
 
 unfoldable pub define_of : Data → Option Call
 define_of d = with_keys (codes "op" ∷ codes "id" ∷ codes "bytes" ∷ []) d do
@@ -48,67 +52,17 @@ define_of d = with_keys (codes "op" ∷ codes "id" ∷ codes "bytes" ∷ []) d d
   Some (define_function id 1 bytes [])
 
 -- a command by its `op`
-unfoldable pub command_of : Data → Option Call
-command_of d = do
+unfoldable pub command_of : CallConv → Data → Option Call
+command_of convention d = do
   op ← text_at (codes "op") d
-  if bytes_eq op (codes "declare_function") then declare_of d
+  if bytes_eq op (codes "declare_function") then declare_of convention d
+      else if bytes_eq op (codes "declare_anonymous_function") then anonymous_of convention d
       else if bytes_eq op (codes "define_function") then define_of d
       else None
 
-unfoldable pub commands_of : Items → Option (List Call)
-commands_of no_items = Some []
-commands_of (item d ds) = command_of d >>= λ c. commands_of ds >>= λ cs. Some (c ∷ cs)
-
--- -- the parts that are built so far
-
--- the name and the linkage that a call declares a function with
-abbrev pub declared_name : Call → Option (List ℕ)
-declared_name (declare_function name linkage signature) = Some name
-declared_name (declare_anonymous_function signature) = None
-declared_name (declare_data name linkage writable tls) = None
-declared_name (declare_anonymous_data writable tls) = None
-declared_name (define_function id align contents relocs) = None
-declared_name (define_data id d) = None
-
-abbrev pub declared_linkage : Call → Option Linkage
-declared_linkage (declare_function name linkage signature) = Some linkage
-declared_linkage (declare_anonymous_function signature) = None
-declared_linkage (declare_data name linkage writable tls) = None
-declared_linkage (declare_anonymous_data writable tls) = None
-declared_linkage (define_function id align contents relocs) = None
-declared_linkage (define_data id d) = None
-
--- no text stands among those before it
-unfoldable pub is_distinct : List (List ℕ) → Bool
-is_distinct texts = list_all (λ m. not (list_any (bytes_eq m.here) m.before)) (moments texts)
-
-abbrev pub has_zero_byte : List ℕ → Bool
-has_zero_byte text = list_any (λ x. x == 0) text
-
-abbrev pub is_import : Option Linkage → Bool
-is_import None = false
-is_import (Some Import) = true
-is_import (Some Local) = false
-is_import (Some Preemptible) = false
-is_import (Some Hidden) = false
-is_import (Some Export) = false
-
--- the call defines a function that is declared with the linkage Import
-abbrev pub defines_import : List Linkage → Call → Bool
-defines_import linkages (declare_function name linkage signature) = false
-defines_import linkages (declare_anonymous_function signature) = false
-defines_import linkages (declare_data name linkage writable tls) = false
-defines_import linkages (declare_anonymous_data writable tls) = false
-defines_import linkages (define_function id align contents relocs) = is_import (slice_get linkages id)
-defines_import linkages (define_data id d) = false
-
--- no name is declared twice or has a zero byte, the file's included, and no import is defined
-unfoldable pub is_built : List ℕ → List Call → Bool
-is_built file calls =
-    not (has_zero_byte file)
-    && (not (list_any has_zero_byte (filter_map declared_name calls))
-    && (is_distinct (filter_map declared_name calls)
-    && not (list_any (defines_import (filter_map declared_linkage calls)) calls)))
+-- the commands of a list
+abbrev pub commands_of : CallConv → Items → Option (List Call)
+commands_of convention ds = each_of (command_of convention) ds
 
 -- -- parts
 
@@ -131,8 +85,8 @@ part_of d = with_keys (codes "name" ∷ codes "arch" ∷ codes "format" ∷ code
   arch ← text_at (codes "arch") d
   format ← text_at (codes "format") d
   items ← items_at (codes "commands") d
-  calls ← commands_of items
-  if bytes_eq arch (codes "x86_64") && (bytes_eq format (codes "elf") && is_built name calls) then Some (part_with name calls) else None
+  calls ← commands_of (default_call_conv elf_target.triple) items
+  if bytes_eq arch (codes "x86_64") && bytes_eq format (codes "elf") then Some (part_with name calls) else None
 
 abbrev pub one_part : Items → Option (List BuildPart)
 one_part no_items = None

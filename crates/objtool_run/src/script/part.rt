@@ -3,14 +3,13 @@
 ghost use Rattle.std.specs.Prelude.{◌≡◌, ◌<◌, ◌∷◌, [], map, length, Some, IfOk, IfErr};
 ghost use Rattle.std.specs.List.{All};
 ghost use Rattle.serde_json.specs.View.{view, items_view};
-ghost use Rattle.cranelift_object.specs.Commands.{command_view};
+ghost use Rattle.cranelift_object.specs.Command.{command_view};
 ghost use Rattle.image_build.specs.Parts.{part_view, IsBuildable};
 ghost use Rattle.objtool_run.specs.Form.{Gives};
-ghost use Rattle.objtool_run.specs.Script.{part_of, part_with, parts_of, commands_of, StandsFor, HasFewCalls};
+ghost use Rattle.objtool_run.specs.Script.{elf_target, part_of, part_with, parts_of, commands_of, StandsFor, HasFewCalls};
 ghost use Rattle.objtool_run.specs.Run.{Explains, IsOfInput};
 
 use crate::fault::Fault;
-use crate::script::built::is_built;
 use crate::script::command::commands_of;
 use crate::script::fields::{has_keys_within, items_at, text_at};
 use crate::script::form::FormError;
@@ -24,9 +23,9 @@ use std::alloc::{AllocError, Global};
 /// A part has fewer commands than there are identifiers.
 const COMMAND_LIMIT: usize = 4_294_967_295;
 
-/// A part for x86_64 ELF, without flags and options, with the usual library texts.
-fn part_with(alloc: Global, name: &str, commands: Vec<Command>) -> Result<Part, AllocError>
-    ensures { IfOk result (λ part. part_view part ≡ part_with name.now (map command_view commands.items)) }
+/// The target of x86_64 ELF files, without flags.
+fn elf_target(alloc: Global) -> TargetIsa
+    ensures { result ≡ elf_target }
 {
     let triple = Triple {
         architecture: Architecture::X86_64,
@@ -35,9 +34,15 @@ fn part_with(alloc: Global, name: &str, commands: Vec<Command>) -> Result<Part, 
         version: None,
         environment: Environment::Unknown,
     };
-    let isa = TargetIsa::new(alloc, triple);
+    TargetIsa::new(alloc, triple)
+}
+
+/// A part for x86_64 ELF, without options, with the usual library texts.
+fn part_with(alloc: Global, name: &str, commands: Vec<Command>) -> Result<Part, AllocError>
+    ensures { IfOk result (λ part. part_view part ≡ part_with name.now (map command_view commands.items)) }
+{
     let names = default_libcall_names(alloc)?;
-    let mut part = CommandPart::new(alloc, name.as_bytes(), isa, names)?;
+    let mut part = CommandPart::new(alloc, name.as_bytes(), elf_target(alloc), names)?;
     part.set_commands(commands);
     Ok(Part::Commands(part))
 }
@@ -54,12 +59,12 @@ fn part_of(alloc: Global, value: &Value) -> Result<Part, FormError>
     let name = text_at(value, "name")?;
     let arch = text_at(value, "arch")?;
     let format = text_at(value, "format")?;
-    let commands = commands_of(alloc, items_at(value, "commands")?)?;
+    let convention = elf_target(alloc).default_call_conv();
+    let commands = commands_of(alloc, convention, items_at(value, "commands")?)?;
     if commands.len() >= COMMAND_LIMIT {
         return Err(FormError::OutOfMemory);
     }
-    let built = is_built(alloc, name, &commands)?;
-    if arch != "x86_64" || format != "elf" || !built {
+    if arch != "x86_64" || format != "elf" {
         return Err(FormError::NotForm);
     }
     Ok(part_with(alloc, name, commands)?)

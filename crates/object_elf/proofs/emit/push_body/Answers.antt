@@ -1,6 +1,6 @@
-use Rattle.std.proofs.Common.{◌≡◌, ◌<◌, ◌+◌, ◌^◌, length, ap, sym, ◌∙◌, refl, arith}
+use Rattle.std.proofs.Common.{arith}
 use Rattle.object_elf.proofs.Tables.{chosen_sizes}
-use Rattle.object_elf.proofs.Fit.{formed_rows, formed_names}
+use Rattle.object_elf.proofs.Fit.{formed_rows}
 use Rattle.object_elf.proofs.Emitting.{body_laid}
 use Rattle.object_elf.proofs.emit.push_body.Goals as goal
 

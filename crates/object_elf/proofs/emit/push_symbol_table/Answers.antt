@@ -1,4 +1,3 @@
-use Rattle.object_elf.specs.Writing.{rows_in_order}
 use Rattle.byte_core.proofs.LaidOut.{lays_one}
 use Rattle.object_elf.proofs.Emitting.{table_bytes}
 use Rattle.object_elf.proofs.emit.push_symbol_table.Goals as goal

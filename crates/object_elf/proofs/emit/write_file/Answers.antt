@@ -1,8 +1,7 @@
-use Rattle.std.proofs.Common.{◌≡◌, ◌<◌, ◌+◌, ◌*◌, ◌^◌, ℕ, List, ◌++◌, length, ap, sym, ◌∙◌, refl, arith}
+use Rattle.std.proofs.Common.{◌≡◌, ℕ, List, ◌++◌, length, ap, ◌∙◌, refl, arith}
 use Rattle.object_core.specs.ElfRows.{elf_table_of, elf_machine}
 use Rattle.object_elf.specs.ElfHolds.{header_for}
 use Rattle.object_elf.specs.File.{header_bytes}
-use Rattle.object_elf.specs.Layout.{parts_of, headers_start}
 use Rattle.object_elf.specs.PartView.{with_end}
 use Rattle.object_elf.specs.Writing.{header_with}
 use Rattle.object_elf.proofs.RelocationLoops.{lays_as}

@@ -1,10 +1,8 @@
-use Rattle.std.proofs.Common.{◌≡◌, ◌<◌, ◌^◌, ◌+◌, ap, sym, ◌∙◌, refl, arith, codes}
-use Rattle.std.specs.Prelude.{sum_by, count_by}
-use Rattle.object_core.specs.declared.symbol.Symbol.{Symbol}
-use Rattle.object_core.specs.Object.{SectionData, is_local}
+use Rattle.std.proofs.Common.{◌≡◌, ◌+◌, ap, sym, ◌∙◌, refl, arith, codes}
+use Rattle.std.specs.Prelude.{sum_by}
+use Rattle.object_core.specs.Object.{SectionData}
 use Rattle.object_core.specs.ElfRows.{elf_table_of}
 use Rattle.object_elf.specs.Layout.{symbol_table_row, string_part}
-use Rattle.object_elf.specs.PartView.{symbol_part_of}
 use Rattle.object_elf.specs.PlainCounts.{symbol_name_size, section_name_size}
 use Rattle.object_elf.proofs.Lists.{one_of_sum}
 use Rattle.object_elf.proofs.PartLoops.{parts_listed}

@@ -1,8 +1,7 @@
-use Rattle.std.proofs.Common.{◌≡◌, ◌<◌, ◌≤◌, ◌^◌, List, [], arith, append_assoc, ◌∙◌, sym, refl, get_or}
+use Rattle.std.proofs.Common.{[], arith, refl, get_or}
 use Rattle.object_elf.specs.declared.layout.PartHeader.{PartHeader}
 use Rattle.object_elf.specs.PartView.{part_view}
-use Rattle.object_elf.specs.Layout.{Part, end_of_parts}
-use Rattle.object_elf.proofs.PartLoops.{part_next, place_some, place_is, start_after-le, end_room, ends_more, part_names_more, part_names_room, part_rows_more, part_rows_all, first_row, end_is_fold}
+use Rattle.object_elf.proofs.PartLoops.{part_next, place_some, place_is, start_after-le, end_room, ends_more, part_names_more, part_rows_more, part_rows_all, first_row, end_is_fold}
 use Rattle.object_elf.proofs.section_rows.push_section_rows.Goals as goal
 
 -- the header that the loop's item has past the end

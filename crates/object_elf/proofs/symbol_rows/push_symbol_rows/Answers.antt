@@ -1,4 +1,4 @@
-use Rattle.std.proofs.Common.{◌≡◌, ◌<◌, ◌^◌, ◌+◌, length, refl, sym, ◌∙◌, ap, true, arith}
+use Rattle.std.proofs.Common.{◌≡◌, ◌<◌, ◌^◌, ◌+◌, length, sym, ◌∙◌, ap, true}
 use Rattle.object_core.specs.declared.symbol.Symbol.{Symbol}
 use Rattle.object_elf.specs.Writing.{is_chosen}
 use Rattle.object_elf.proofs.Lists.{item_get, each_more, each_all}

@@ -1,4 +1,3 @@
-use Rattle.std.proofs.Common.{refl}
 use Rattle.object_elf.proofs.FormedObjects.{file_object_formed}
 use Rattle.object_elf.proofs.emit.tests.an_empty_part_has_480_bytes.Goals as goal
 

@@ -1,4 +1,3 @@
-use Rattle.std.proofs.Common.{refl}
 use Rattle.object_elf.proofs.FormedObjects.{main_object_formed}
 use Rattle.object_elf.proofs.emit.tests.an_exported_main_has_592_bytes.Goals as goal
 

@@ -1,4 +1,4 @@
-use Rattle.std.proofs.Common.{refl, lit<}
+use Rattle.std.proofs.Common.{refl}
 use lib.Count.{ones}
 use Rattle.object_elf.proofs.emit.tests.main_object.Goals as goal
 
