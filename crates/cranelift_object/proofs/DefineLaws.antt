@@ -94,11 +94,11 @@ created_apart o marks k i y h at ne =
 
 -- -- sections of functions have bytes
 
-All-front : {A : Type 0} (P : A → Type 0) (xs : List A) (x : A) → All P (xs ++ x ∷ []) → All P xs
+pub All-front : {A : Type 0} (P : A → Type 0) (xs : List A) (x : A) → All P (xs ++ x ∷ []) → All P xs
 All-front P [] x all = All-nil P
 All-front P (y ∷ xs) x all = All-cons P y xs (All-head P y (xs ++ x ∷ []) all) (All-front P xs x (All-tail P y (xs ++ x ∷ []) all))
 
-All-last : {A : Type 0} (P : A → Type 0) (xs : List A) (x : A) → All P (xs ++ x ∷ []) → P x
+pub All-last : {A : Type 0} (P : A → Type 0) (xs : List A) (x : A) → All P (xs ++ x ∷ []) → P x
 All-last P [] x all = All-head P x [] all
 All-last P (y ∷ xs) x all = All-last P xs x (All-tail P y (xs ++ x ∷ []) all)
 
@@ -115,10 +115,10 @@ used_all_more P cs c before all =
     rw (used-end cs c) (used_all_cond P (sections_used cs) c (list_any (share c) cs) (All-last P cs c all) (before (All-front P cs c all)))
 
 -- what holds of each class holds of each section in use
-used_all : (P : Class → Type 0) (cs : List Class) → All P cs → All P (sections_used cs)
+pub used_all : (P : Class → Type 0) (cs : List Class) → All P cs → All P (sections_used cs)
 used_all P = by_end (λ cs. All P cs → All P (sections_used cs)) (used_all_none P) (used_all_more P)
 
-text_kind : (settings : Settings) (s : LinkState) (count : ℕ) (d : Definition) → IsBody count d → is_zero_fill (section_class settings s d).kind ≡ false
+pub text_kind : (settings : Settings) (s : LinkState) (count : ℕ) (d : Definition) → IsBody count d → is_zero_fill (section_class settings s d).kind ≡ false
 text_kind settings s count d body = rw body.is refl
 
 -- each section in use is one of bytes
@@ -162,7 +162,7 @@ align_most S390x = omega arith
 
 -- -- one more definition
 
-row_at : (rows : List FunctionRow) (k : ℕ) → k < length rows → (row : FunctionRow) × (slice_get rows k ≡ Some row)
+pub row_at : (rows : List FunctionRow) (k : ℕ) → k < length rows → (row : FunctionRow) × (slice_get rows k ≡ Some row)
 row_at [] k h = absurd (omega arith)
 row_at (r ∷ rows) zero h = (r, refl)
 row_at (r ∷ rows) (suc k) h = row_at rows k (omega arith)
@@ -337,7 +337,7 @@ adds o marks number function symbol section align contents object later left h a
     ends
     ∙ (rw (now, named, place, aligned) (sym (definition_step o marks number function contents h add.found add.declared)))
 
-body_plain : (count : ℕ) (d : Definition) → IsBody count d → d.relocs ≡ []
+pub body_plain : (count : ℕ) (d : Definition) → IsBody count d → d.relocs ≡ []
 body_plain count d body = ap (λ (x : Definition). x.relocs) body.is
 
 -- once all definitions are there, the object is that of the state

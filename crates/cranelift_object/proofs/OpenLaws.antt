@@ -30,7 +30,7 @@ shared_from : (settings : Settings) (s : LinkState) (standard : StandardSection)
 shared_from settings s standard i j [] ps = refl
 shared_from settings s standard i j (c ∷ classes) ps = rw (shared_from settings s standard (i + 1) (j + 1) classes ps) refl
 
-sections_length : (settings : Settings) (s : LinkState) (i : ℕ) (classes : List Class) (ps : List Placed) → length (sections_from settings s i classes ps) ≡ length classes
+pub sections_length : (settings : Settings) (s : LinkState) (i : ℕ) (classes : List Class) (ps : List Placed) → length (sections_from settings s i classes ps) ≡ length classes
 sections_length settings s i [] ps = refl
 sections_length settings s i (c ∷ classes) ps = let rest = sections_length settings s (i + 1) classes ps in omega (arith, rest)
 

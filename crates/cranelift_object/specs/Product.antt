@@ -1,8 +1,10 @@
 -- What a finished module gives.
-use Rattle.std.specs.Prelude.{ℕ, ◌+◌, Bool, List, [], map, length, unwrap_or, if◌then◌else◌}
+use Rattle.std.specs.Prelude.{◌≡◌, ℕ, ◌+◌, Bool, List, [], map, length, unwrap_or, if◌then◌else◌}
 use Rattle.std.specs.List.{enumerate_from, position_or_len}
 use Rattle.object_core.specs.declared.kinds.StandardSection.TheVariants.{Text}
+use Rattle.ir_core.specs.declared.target.BinaryFormat.TheVariants.{Elf}
 use Rattle.object_core.specs.Object.{ObjectData}
+use Rattle.object_core.specs.WellFormed.{IsFormedElf}
 use Rattle.object_core.specs.Appending.{empty_object, with_symbol, file_symbol, with_subsection, with_standard_section, standard_at}
 use Rattle.cranelift_module.specs.declared.identifiers.FuncOrDataId.{FuncOrDataId}
 use Rattle.cranelift_module.specs.declared.identifiers.FuncOrDataId.TheVariants.{Func, Data}
@@ -36,6 +38,11 @@ data_marks s = map (λ (row : ℕ × DataRow). data_mark s row.0) (enumerate_fro
 -- the product of a finished state
 abbrev pub product_of : Settings → LinkState → ProductData
 product_of settings s = record { object = object_of settings s; functions = function_marks s; data_objects = data_marks s }
+
+-- an object that has an ELF file
+pub record IsWritable (o : ObjectData) : Type 0 where
+  pub format : o.format ≡ Elf
+  pub formed : IsFormedElf o
 
 -- -- on the way to it
 

@@ -1,9 +1,16 @@
 //! What a finished module gives.
 
-ghost use Rattle.std.specs.Prelude.{◌≡◌, ◌<◌, ℕ, Bool, [], Some, length, map, slice_get, option_map};
+ghost use Rattle.std.specs.Prelude.{◌≡◌, ◌<◌, ℕ, Bool, [], Some, IfOk, length, slice_get, option_map};
+ghost use Rattle.object_core.specs.ElfRows.{elf_table_of};
+ghost use Rattle.object_elf.specs.ElfHolds.{ElfHolds};
+ghost use Rattle.object_elf.specs.Limits.{limit_cause};
+ghost use Rattle.object_elf.specs.PlainCounts.{IsJudged};
+ghost use Rattle.cranelift_object.specs.Part.{counts_of};
+ghost use Rattle.cranelift_object.specs.Product.{IsWritable};
 
 use cranelift_module::{DataId, FuncId};
-use object_core::{Object, SymbolId};
+use object_core::{EmitError, Object, SymbolId};
+use object_elf::emit_elf;
 use std::alloc::Global;
 use std::marker::Model;
 
@@ -20,7 +27,11 @@ impl Model for ObjectProduct {
 
     ghost Value = { ProductData };
 
+    ghost use Rattle.cranelift_object.specs.Product.{IsWritable};
+
     ghost view = { λ p. record { object = p.object; functions = p.functions.items; data_objects = p.data_objects.items } };
+
+    ghost invariant = { λ p. IsWritable p.object };
 }
 
 impl ObjectProduct {
@@ -29,6 +40,7 @@ impl ObjectProduct {
         object: Object,
         functions: Vec<(SymbolId, bool)>,
     ) -> ObjectProduct
+        requires { IsWritable object }
         ensures { result ≡ record { object = object; functions = functions.items; data_objects = [] } }
     {
         ObjectProduct {
@@ -36,6 +48,15 @@ impl ObjectProduct {
             functions,
             data_objects: Vec::new(alloc),
         }
+    }
+
+    /// The bytes of the object's file. They hold exactly the link table of the object. The first limit of the format
+    /// that is reached is refused.
+    pub fn emit(self, alloc: Global) -> Result<Vec<u8>, EmitError>
+        ensures holds { IfOk result (λ file. ElfHolds file.items (elf_table_of self.object)) }
+        ensures limits { IsJudged result (counts_of self.object) (limit_cause (counts_of self.object)) }
+    {
+        emit_elf(alloc, &self.object)
     }
 
     pub fn object(&self) -> &Object

@@ -1,3 +1,0 @@
-use Rattle.cranelift_object.proofs.OpenLaws.{number_shared, empty_own, empty_shared}
-use Rattle.cranelift_object.proofs.DefineLaws.{moment_at}
-use Rattle.cranelift_object.proofs.backend.ObjectModule.section_of.Goals as goal
