@@ -4,7 +4,7 @@ ghost use Rattle.std.specs.Prelude.{◌≡◌, ◌<◌, ℕ, Bool, [], Some, IfO
 ghost use Rattle.object_core.specs.ElfRows.{elf_table_of};
 ghost use Rattle.object_elf.specs.ElfHolds.{ElfHolds};
 ghost use Rattle.object_elf.specs.Limits.{limit_cause};
-ghost use Rattle.object_elf.specs.PlainCounts.{IsJudged};
+ghost use Rattle.object_elf.specs.Limits.{IsJudged};
 ghost use Rattle.cranelift_object.specs.Part.{counts_of};
 ghost use Rattle.cranelift_object.specs.Product.{IsWritable};
 

@@ -43,9 +43,9 @@ unfolding first_refusal
 from_place target all before [] j e l = refl
 from_place target all before (c ∷ cs) j e l =
     first_of (called target all j) (filter_map (called target all) (range_with_len (j + 1) (length cs)))
-      ∙ ap (λ o. option_or o (slice_get (filter_map (called target all) (range_with_len (j + 1) (length cs))) 0)) (called_at target all before cs c j e l)
-      ∙ joined (refusal (state_of target before) c) j _ (first_refusal (step (state_of target before) c) (j + 1) cs)
-        (λ none. from_place target all (before ++ c ∷ []) cs (j + 1) (e ∙ sym (append_assoc before (c ∷ []) cs)) (omega (arith, l, length-append before (c ∷ []))) ∙ ap (λ s. option_map at_pair (first_refusal s (j + 1) cs)) (state_of-step target before c none))
+    ∙ ap (λ o. option_or o (slice_get (filter_map (called target all) (range_with_len (j + 1) (length cs))) 0)) (called_at target all before cs c j e l)
+    ∙ joined (refusal (state_of target before) c) j _ (first_refusal (step (state_of target before) c) (j + 1) cs)
+    (λ none. from_place target all (before ++ c ∷ []) cs (j + 1) (e ∙ sym (append_assoc before (c ∷ []) cs)) (omega (arith, l, length-append before (c ∷ []))) ∙ ap (λ s. option_map at_pair (first_refusal s (j + 1) cs)) (state_of-step target before c none))
 
 -- the first call that is refused
 pub first_refused-calls : (target : Target) (calls : List Call) → first_refused target calls ≡ option_map at_pair (first_refusal (state_of target []) 0 calls)

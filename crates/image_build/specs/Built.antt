@@ -1,7 +1,9 @@
 -- What a build gives for a list of parts, and what refuses it.
-use Rattle.std.specs.Prelude.{◌≡◌, ℕ, List, [], ◌∷◌, Option, Some, None, option_map, IsSomeAnd}
+use Rattle.std.specs.Prelude.{◌≡◌, ℕ, List, [], ◌∷◌, Option, Some, None, option_map, IsSome, IsSomeAnd}
 use Rattle.object_core.specs.ElfRows.{elf_table_of}
+use Rattle.object_core.specs.declared.error.EmitError.{EmitError}
 use Rattle.object_core.specs.declared.error.EmitError.TheVariants as limits
+use Rattle.cranelift_module.specs.declared.error.ModuleError.{ModuleError}
 use Rattle.object_elf.specs.ElfHolds.{ElfHolds}
 use Rattle.cranelift_module.specs.Refusal.{Refusal, refusal_told}
 use Rattle.cranelift_object.specs.Linked.{object_of}
@@ -53,3 +55,19 @@ TellsPlace _ _ is = ⊥
 -- the error tells this refusal, or memory ran out
 abbrev pub TellsBuild : BuildError → Option BuildRefusal → Type 0
 TellsBuild e cause = TellsPlace e.place e.cause (λ r. cause ≡ Some (record { part = e.part; refusal = r }))
+
+-- the cause of a build that a module refused with this error: want of memory has a cause of its own
+abbrev pub TellsCause : ModuleError → BuildCause → Type 0
+TellsCause e OutOfMemory = refusal_told e ≡ None
+TellsCause e (Module f) = (f ≡ e) × IsSome (refusal_told e)
+TellsCause e (TooMany what count) = ⊥
+TellsCause e (TooLarge what amount) = ⊥
+TellsCause e Mixed = ⊥
+
+-- the cause of a build whose file was refused with this error
+abbrev pub TellsOver : EmitError → BuildCause → Type 0
+TellsOver e OutOfMemory = e ≡ limits.OutOfMemory
+TellsOver e (TooMany what count) = e ≡ limits.TooMany what count
+TellsOver e (TooLarge what amount) = e ≡ limits.TooLarge what amount
+TellsOver e (Module f) = ⊥
+TellsOver e Mixed = ⊥
