@@ -1,6 +1,7 @@
 -- The first cause of a part, found step by step, and the errors that tell it.
-use Rattle.std.proofs.Common.{◌≡◌, ℕ, List, [], ◌∷◌, Option, Some, None, option_map, IfSome, refl, ap, sym, ◌∙◌, subst}
+use Rattle.std.proofs.Common.{◌≡◌, ℕ, ◌+◌, ◌<◌, List, [], ◌∷◌, length, count_by, arith, Option, Some, None, option_map, IfSome, refl, ap, sym, ◌∙◌, subst}
 use Rattle.std.specs.Option.{option_or, is_some, IsSomeAnd, IsSome}
+use Rattle.std.proofs.lemmas.List.Sums.{count_by-le-length}
 use Rattle.object_core.specs.declared.error.EmitError.{EmitError}
 use Rattle.object_core.specs.declared.error.EmitError.TheVariants as limits
 use Rattle.object_elf.specs.ElfHolds.{ElfHolds}
@@ -9,10 +10,17 @@ use Rattle.object_core.specs.ElfRows.{elf_table_of}
 use Rattle.cranelift_module.specs.declared.error.ModuleError.{ModuleError}
 use Rattle.cranelift_module.specs.LinkState.{LinkState, state_of, steps}
 use Rattle.cranelift_module.specs.Refusal.{Refusal, refusal_told, Tells}
-use Rattle.cranelift_object.specs.Commands.{first_refusal, TellsAt}
+use Rattle.ir_core.specs.Target.{Target}
+use Rattle.ir_core.specs.Moments.{moments}
+use Rattle.object_core.specs.Object.{ObjectData}
+use Rattle.cranelift_module.specs.Call.{Call}
+use Rattle.cranelift_module.specs.Rows.{functions_of}
+use Rattle.cranelift_object.specs.Settings.{Settings, plain_settings}
+use Rattle.cranelift_object.specs.Opened.{OpenModule}
+use Rattle.cranelift_object.specs.Commands.{first_refusal, TellsAt, makes_function}
 use Rattle.cranelift_object.specs.EndCause.{end_cause}
 use Rattle.cranelift_object.specs.Linked.{object_of}
-use Rattle.cranelift_object.specs.Part.{PartData, PartRefusal, at_start, at_call, at_end, over, start_cause, first_refused, part_cause, part_state, counts}
+use Rattle.cranelift_object.specs.Part.{PartData, PartRefusal, at_start, at_call, at_end, over, start_cause, first_refused, part_cause, part_state, counts, counts_of}
 use Rattle.image_build.specs.Built.{BuildPart, commands, BuildRefusal, build_cause, TellsBuild, TellsPlace, TellsCause, TellsOver}
 use Rattle.image_build.specs.declared.error.BuildCause.{BuildCause}
 use Rattle.image_build.specs.declared.error.BuildCause.TheVariants.{Module, TooMany, TooLarge, Mixed, OutOfMemory}
@@ -120,3 +128,57 @@ valid_part part o h = rw (cause_none part o h) refl
 -- the state that a part's accepted calls leave
 pub applied_state : (part : PartData) → first_refusal (state_of part.target []) 0 part.calls ≡ None → steps (state_of part.target []) part.calls ≡ part_state part
 applied_state part h = accepted-state part.target part.calls h
+
+-- -- a build step by step, in terms of the module
+
+pub start_plain : (s : Settings) (target : Target) → start_cause (plain_settings s.file_name s.library_names) target ≡ start_cause s target
+unfolding start_cause
+start_plain s target = refl
+
+no_functions : (target : Target) → length (state_of target []).functions ≡ 0
+unfolding state_of functions_of moments
+no_functions target = refl
+
+-- a module that was opened for the part has room for its calls
+pub part_room : (part : PartData) (m : OpenModule) (calls : List Call) → m ≡ record { settings = part.settings; state = state_of part.target [] } → calls ≡ part.calls → length part.calls < 4294967295
+    → length m.state.functions + count_by makes_function calls < 4294967295
+part_room part m calls opened same few = rw (opened, same) (omega (arith, no_functions part.target, count_by-le-length makes_function part.calls))
+
+pub part_call : (part : PartData) (m : OpenModule) (calls : List Call) (j : ℕ) (e : ModuleError) (c : BuildCause) → m ≡ record { settings = part.settings; state = state_of part.target [] } → start_cause part.settings part.target ≡ None → calls ≡ part.calls
+    → TellsCause e c → TellsAt j e (first_refusal m.state 0 calls) → TellsBuild (record { part = 0; place = Command j; cause = c }) (build_cause (commands part ∷ []))
+part_call part m calls j e c opened started same t told = tells_call part e c j (record { start = started }) t (rw (opened, same) at told)
+
+-- the module after the part's calls
+pub record IsLeft (part : PartData) (m : OpenModule) : Type 0 where
+  pub passed : IsApplied part
+  pub settings : m.settings ≡ part.settings
+  pub state : m.state ≡ part_state part
+
+pub part_left : (part : PartData) (m later : OpenModule) (calls : List Call) → m ≡ record { settings = part.settings; state = state_of part.target [] } → start_cause part.settings part.target ≡ None → calls ≡ part.calls
+    → first_refusal m.state 0 calls ≡ None → later.state ≡ steps m.state calls → later.settings ≡ m.settings → IsLeft part later
+part_left part m later calls opened started same free state settings =
+    let none : first_refusal (state_of part.target []) 0 part.calls ≡ None = rw (opened, same) at free in
+    record {
+      passed = record { start = started; calls = none };
+      settings = settings ∙ ap (λ (o : OpenModule). o.settings) opened;
+      state = state ∙ (rw (opened, same) (applied_state part none));
+    }
+
+pub part_end : (part : PartData) (m : OpenModule) (e : ModuleError) (c : BuildCause) → IsLeft part m → TellsCause e c → Tells e (end_cause m.state) → TellsBuild (record { part = 0; place = End; cause = c }) (build_cause (commands part ∷ []))
+part_end part m e c left t told = tells_end part e c left.passed t (rw left.state at told)
+
+finished : (part : PartData) (m : OpenModule) → IsLeft part m → end_cause m.state ≡ None → IsFinished part
+finished part m left h = record { start = left.passed.start; calls = left.passed.calls; ended = ap end_cause (sym left.state) ∙ h }
+
+same_object : (part : PartData) (m : OpenModule) (o : ObjectData) → IsLeft part m → o ≡ object_of m.settings m.state → o ≡ object_of part.settings (part_state part)
+same_object part m o left h = h ∙ rw (left.settings, left.state) refl
+
+pub part_over : (part : PartData) (m : OpenModule) (o : ObjectData) (e : EmitError) (c : BuildCause) → IsLeft part m → end_cause m.state ≡ None → o ≡ object_of m.settings m.state → TellsOver e c → TellsLimit e (limit_cause (counts_of o))
+    → TellsBuild (record { part = 0; place = End; cause = c }) (build_cause (commands part ∷ []))
+part_over part m o e c left ended h t told = tells_over part e c (finished part m left ended) t (rw (same_object part m o left h) at told)
+
+pub part_valid : (part : PartData) (m : OpenModule) (o : ObjectData) → IsLeft part m → end_cause m.state ≡ None → o ≡ object_of m.settings m.state → limit_cause (counts_of o) ≡ None → build_cause (commands part ∷ []) ≡ None
+part_valid part m o left ended h free = valid_part part (finished part m left ended) (rw (same_object part m o left h) at free)
+
+pub part_built : (part : PartData) (m : OpenModule) (o : ObjectData) (b : List ℕ) → IsLeft part m → o ≡ object_of m.settings m.state → ElfHolds b (elf_table_of o) → ElfHolds b (elf_table_of (object_of part.settings (part_state part)))
+part_built part m o b left h holds = rw (same_object part m o left h) at holds

@@ -47,6 +47,7 @@ fn at(place: Place, cause: BuildCause) -> BuildError
 }
 
 /// A module with the part's target and settings, before its commands.
+#[tactic(auto, using(crate::proofs::PartCause::start_plain))]
 fn open_module(alloc: Global, part: &CommandPart) -> ModuleResult<ObjectModule>
     requires { (part.now).target.triple.binary_format ≢ Macho }
     ensures ok { IfOk result (λ m. m ≡ record { settings = (part.now).settings; state = state_of (part.now).target [] }) }
