@@ -1,6 +1,6 @@
 //! The declarations of a module: functions and data objects by number, and their names.
 
-ghost use Rattle.std.specs.Prelude.{◌≡◌, ◌<◌, ◌≤◌, ◌+◌, ◌++◌, ◌∷◌, [], ℕ, Some, None, IfOk, IfErr, OnOk, OnErr, length, option_map, slice_get, string_bytes, string_cmp, option_copied, is_some};
+ghost use Rattle.std.specs.Prelude.{◌≡◌, ◌<◌, ◌≤◌, ◌+◌, ◌++◌, ◌∷◌, [], ℕ, Some, None, IfOk, IfErr, OnOk, OnErr, length, option_map, slice_get, string_bytes, string_cmp, option_copied, is_some, true, false};
 ghost use Rattle.std.specs.BTreeMap.{IsUnchanged, Updates, get_by_text};
 ghost use Rattle.cranelift_module.specs.declared.identifiers.FuncOrDataId.TheVariants.{Func};
 ghost use Rattle.std.specs.List.{find, list_any, position_from};
@@ -117,6 +117,7 @@ impl ModuleDeclarations {
         ensures declared { OnOk result (self.new ≡ record self.old { functions = with_first (is_function_named name.now) (raised_function linkage) (record { name = Some name.now; linkage = linkage; signature = signature.now }) (self.old).functions }) }
         ensures id { IfOk result (λ answer. position_from (is_function_named name.now) 0 (self.new).functions ≡ Some answer.0) }
         ensures linkage { IfOk result (λ answer. option_map (λ row. row.linkage) (slice_get (self.new).functions answer.0) ≡ Some answer.1) }
+        ensures new { IfOk result (λ answer. list_any (is_function_named name.now) (self.old).functions ≡ false → answer.0 ≡ length (self.old).functions) }
         ensures count { length (self.new).functions ≤ length (self.old).functions + 1 }
         ensures refused { IfErr result (λ e. Tells e (function_clash (self.old).functions (self.old).objects name.now signature.now)) }
         ensures kept { OnErr result (self.new ≡ self.old) }
@@ -200,6 +201,7 @@ fn declare_again(
     ensures found { OnOk result (functions.new.items ≡ changed_at id (raised_function linkage) functions.old.items) }
     ensures id { IfOk result (λ answer. position_from (is_function_named name.now) 0 functions.new.items ≡ Some answer.0) }
     ensures linkage { IfOk result (λ answer. option_map (λ row. row.linkage) (slice_get functions.new.items answer.0) ≡ Some answer.1) }
+    ensures known { OnOk result (list_any (is_function_named name.now) functions.old.items ≡ true) }
     ensures count { length functions.new.items ≤ length functions.old.items + 1 }
     ensures refused { IfErr result (λ e. Tells e (changes_signature name.now signature.now (find (is_function_named name.now) functions.old.items))) }
     ensures kept { OnErr result (functions.new.items ≡ functions.old.items) }
@@ -230,6 +232,7 @@ fn declare_first(
     ensures pushed { OnOk result (functions.new.items ≡ functions.old.items ++ record { name = Some name.now; linkage = linkage; signature = signature.now } ∷ []) }
     ensures id { IfOk result (λ answer. position_from (is_function_named name.now) 0 functions.new.items ≡ Some answer.0) }
     ensures linkage { IfOk result (λ answer. option_map (λ row. row.linkage) (slice_get functions.new.items answer.0) ≡ Some answer.1) }
+    ensures number { IfOk result (λ answer. answer.0 ≡ length functions.old.items) }
     ensures count { length functions.new.items ≤ length functions.old.items + 1 }
     ensures found { OnOk result ((text : _) × (string_bytes text ≡ name.now) × Updates string_cmp names.old names.new text (Some (Func (length functions.old.items)))) }
     ensures refused { IfErr result (λ e. Tells e None) }

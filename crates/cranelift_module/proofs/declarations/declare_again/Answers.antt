@@ -2,7 +2,7 @@ use Rattle.std.proofs.Common.{◌<◌, ◌∙◌, ap, sym, Some, option_map, len
 use Rattle.std.specs.List.{position_from}
 use Rattle.cranelift_module.specs.Rows.{FunctionRow}
 use Rattle.cranelift_module.specs.LinkState.{is_function_named, raised_function}
-use Rattle.cranelift_module.proofs.Places.{set-changed, slice_get-set, position-below, position-changed, with_first-at}
+use Rattle.cranelift_module.proofs.Places.{set-changed, slice_get-set, position-below, position-changed, with_first-at, any-at}
 use Rattle.cranelift_module.proofs.Names.{changes-at, changes-refused, changes-none}
 use Rattle.ir_core.specs.Signature.{SignatureData, is_same_signature}
 use Rattle.std.specs.String.{string_bytes}
@@ -43,3 +43,6 @@ pub returns-clause-linkage : goal.returns-clause-linkage
 returns-clause-linkage c =
     ap (option_map (λ (row : FunctionRow). row.linkage)) (slice_get-set c.args.functions.now.items c.args.id c.as_u32.result c.raise.new.self c.as_u32.ensures (position-below (is_function_named c.args.name.now) c.args.functions.now.items c.args.id c.requires))
     ∙ ap Some (sym c.linkage.ensures)
+
+pub returns-clause-known : goal.returns-clause-known
+returns-clause-known c = any-at (is_function_named c.args.name.now) c.args.functions.now.items c.args.id c.requires
