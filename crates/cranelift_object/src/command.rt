@@ -7,6 +7,8 @@ ghost use Rattle.cranelift_module.specs.IsCall.{IsCall};
 ghost use Rattle.cranelift_module.specs.Refusal.{Tells, refusal};
 ghost use Rattle.cranelift_object.specs.Commands.{command_view, makes_function, IsPlainCall, first_refusal, TellsAt};
 ghost use Rattle.cranelift_object.specs.Settings.{plain_settings};
+ghost use Rattle.ir_core.specs.Target.{Target};
+ghost use Rattle.cranelift_object.specs.Part.{first_refused, TellsCall};
 
 use cranelift_module::{
     FuncId, LibcallNames, Linkage, Module, ModuleError, ModuleReloc, ModuleResult,
@@ -166,6 +168,9 @@ pub fn apply<M: Module>(backend: &mut M, commands: &[Command]) -> Result<(), (us
     ensures refused { IfErr result (λ e. TellsAt e.0 e.1 (first_refusal (M.state backend.old) 0 (map command_view commands.now))) }
     ensures begun { IfErr result (λ e. M.state backend.new ≡ steps (M.state backend.old) (take e.0 (map command_view commands.now))) }
     ensures keeps { M.Keeps backend.old backend.new }
+    ensures whole { (target : Target) → M.state backend.old ≡ state_of target [] → OnOk result (M.state backend.new ≡ state_of target (map command_view commands.now)) }
+    ensures accepted { (target : Target) → M.state backend.old ≡ state_of target [] → OnOk result (first_refused target (map command_view commands.now) ≡ None) }
+    ensures first { (target : Target) → M.state backend.old ≡ state_of target [] → IfErr result (λ e. TellsCall e.0 e.1 (first_refused target (map command_view commands.now))) }
 {
     for (number, command) in commands.iter().enumerate() {
         if let Err(error) = make_call(backend, command) {

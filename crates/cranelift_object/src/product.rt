@@ -3,8 +3,7 @@
 ghost use Rattle.std.specs.Prelude.{◌≡◌, ◌<◌, ℕ, Bool, [], Some, IfOk, length, slice_get, option_map};
 ghost use Rattle.object_core.specs.ElfRows.{elf_table_of};
 ghost use Rattle.object_elf.specs.ElfHolds.{ElfHolds};
-ghost use Rattle.object_elf.specs.Limits.{limit_cause};
-ghost use Rattle.object_elf.specs.Limits.{IsJudged};
+ghost use Rattle.object_elf.specs.Limits.{IsJudged, limit_cause};
 ghost use Rattle.cranelift_object.specs.Part.{counts_of};
 ghost use Rattle.cranelift_object.specs.Product.{IsWritable};
 
