@@ -55,14 +55,14 @@ told_as A B e None h = tt
 told_as A B e (Some x) h = let same : e ≡ x = cc in ap (λ y. Err y) same
 
 -- a refusal that is handed on
-pub judged_err : {A B : Type 0} (r : Result B EmitError) (e : EmitError) (c : Counts) (cause : Option EmitError) → r ≡ Err e → IsJudged {A = A} (Err e) c cause → IsJudged {A = B} r c cause
-judged_err {A} {B} r e c cause same j = rw same (record { ok = tt; err = j.err; told = λ h. told_as A B e cause (j.told h) })
+pub judged_err : {A B : Type 0} (r : Result B EmitError) (e : EmitError) (c : Counts) → r ≡ Err e → IsJudged {A = A} (Err e) c → IsJudged {A = B} r c
+judged_err {A} {B} r e c same j = rw same (record { ok = tt; err = j.err; told = λ h. told_as A B e (limit_cause c) (j.told h) })
 
-pub judged_memory : {A : Type 0} (r : Result A EmitError) (e : EmitError) (c : Counts) (cause : Option EmitError) → r ≡ Err e → e ≡ OutOfMemory → cause ≡ None → IsJudged {A = A} r c cause
-judged_memory {A} r e c cause same memory none = rw (same, memory, none) (record { ok = tt; err = tt; told = λ h. tt })
+pub judged_memory : {A : Type 0} (r : Result A EmitError) (e : EmitError) (c : Counts) → r ≡ Err e → e ≡ OutOfMemory → limit_cause c ≡ None → IsJudged {A = A} r c
+judged_memory {A} r e c same memory none = rw (same, memory) (record { ok = tt; err = tt; told = λ h. rw none tt })
 
-pub judged_ok : {A : Type 0} (x : A) (c : Counts) (cause : Option EmitError) → cause ≡ None → IsJudged {A = A} (Ok x) c cause
-judged_ok {A} x c cause none = rw none (record { ok = refl; err = tt; told = λ h. tt })
+pub judged_ok : {A : Type 0} (x : A) (c : Counts) → limit_cause c ≡ None → IsJudged {A = A} (Ok x) c
+judged_ok {A} x c none = record { ok = none; err = tt; told = λ h. rw none tt }
 
-pub judged_as : {A : Type 0} (r : Result A EmitError) (o : ObjectData) → IsJudged {A = A} r (plain_counts o) (limit_cause (plain_counts o)) → IsJudged {A = A} r (elf_counts (elf_table_of o) o.content_sum) (limit_cause (elf_counts (elf_table_of o) o.content_sum))
+pub judged_as : {A : Type 0} (r : Result A EmitError) (o : ObjectData) → IsJudged {A = A} r (plain_counts o) → IsJudged {A = A} r (elf_counts (elf_table_of o) o.content_sum)
 judged_as {A} r o j = rw (counts_are o) j

@@ -12,7 +12,7 @@ ghost use Rattle.object_elf.specs.ElfHolds.{ElfHolds};
 ghost use Rattle.object_elf.specs.File.{elf_file, symbol_contents};
 ghost use Rattle.object_elf.specs.Fitting.{FitsElf};
 ghost use Rattle.object_elf.specs.Layout.{end_of_parts, string_bytes_of};
-ghost use Rattle.object_elf.specs.Limits.{limit_cause, IsJudged, IsWithinLimits};
+ghost use Rattle.object_elf.specs.Limits.{IsJudged, IsWithinLimits};
 ghost use Rattle.object_elf.specs.PartView.{part_view, part_name_size, with_end};
 ghost use Rattle.object_elf.specs.PlainCounts.{plain_counts};
 ghost use Rattle.object_elf.specs.Writing.{body_of, NumbersFit, contents_at, FitRows, FitSizes, names_size, chosen, rows_in_order, row_names};
@@ -34,7 +34,7 @@ pub fn emit_elf(alloc: Global, object: &Object) -> Result<Vec<u8>, EmitError>
     requires format { (object.now).format ≡ Elf }
     requires formed { IsFormedElf object.now }
     ensures ok { IfOk result (λ file. ElfHolds file.items (elf_table_of object.now)) }
-    ensures cause { IsJudged result (elf_counts (elf_table_of object.now) (object.now).content_sum) (limit_cause (elf_counts (elf_table_of object.now) (object.now).content_sum)) }
+    ensures cause { IsJudged result (elf_counts (elf_table_of object.now) (object.now).content_sum) }
 {
     check_limits(object)?;
     let file = write_file(alloc, object)?;

@@ -2,7 +2,7 @@
 
 ghost use Rattle.std.specs.Prelude.{◌≡◌, ◌+◌, ◌<◌, ◌≤◌, ◌^◌, length, count_by, sum_by};
 ghost use Rattle.object_elf.specs.Writing.{has_relocations};
-ghost use Rattle.object_elf.specs.Limits.{limit_cause, IsJudged};
+ghost use Rattle.object_elf.specs.Limits.{IsJudged};
 ghost use Rattle.object_elf.specs.PlainCounts.{plain_counts, symbol_name_size, section_name_size};
 
 use object_core::{EmitError, Object, Section, Symbol, What};
@@ -17,7 +17,7 @@ const NAMES: u128 = 1 << 32;
 
 /// The first limit that the object reaches. It takes no memory.
 pub(crate) fn check_limits(object: &Object) -> Result<(), EmitError>
-    ensures { IsJudged result (plain_counts object.now) (limit_cause (plain_counts object.now)) }
+    ensures { IsJudged result (plain_counts object.now) }
 {
     let sections = object.sections();
     let symbols = object.symbols();
