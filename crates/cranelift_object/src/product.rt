@@ -3,7 +3,7 @@
 ghost use Rattle.std.specs.Prelude.{◌≡◌, ◌<◌, ℕ, Bool, [], Some, IfOk, length, slice_get, option_map};
 ghost use Rattle.object_core.specs.ElfRows.{elf_table_of};
 ghost use Rattle.object_elf.specs.ElfHolds.{ElfHolds};
-ghost use Rattle.object_elf.specs.Limits.{IsJudged, limit_cause};
+ghost use Rattle.object_elf.specs.Limits.{IsJudged};
 ghost use Rattle.cranelift_object.specs.Part.{counts_of};
 ghost use Rattle.cranelift_object.specs.Product.{IsWritable};
 
@@ -53,7 +53,7 @@ impl ObjectProduct {
     /// that is reached is refused.
     pub fn emit(self, alloc: Global) -> Result<Vec<u8>, EmitError>
         ensures holds { IfOk result (λ file. ElfHolds file.items (elf_table_of self.object)) }
-        ensures limits { IsJudged result (counts_of self.object) (limit_cause (counts_of self.object)) }
+        ensures limits { IsJudged result (counts_of self.object) }
     {
         emit_elf(alloc, &self.object)
     }
