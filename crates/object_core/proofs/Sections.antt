@@ -9,9 +9,10 @@ use Rattle.std.specs.Int.{next_multiple_of, is_power_of_two}
 use Rattle.std.proofs.lemmas.List.Elements.{All-set, All-push, All-nil, All-get_or}
 use Rattle.std.proofs.lemmas.List.Sums.{sum_by-set, sum_by_push, get_or-le-sum_by}
 use Rattle.object_core.specs.declared.kinds.StandardSection.{StandardSection}
+use Rattle.object_core.specs.declared.kinds.SectionKind.{SectionKind}
 use Rattle.object_core.specs.declared.symbol.Symbol.{Symbol}
 use Rattle.object_core.specs.Object.{SectionData, ObjectData}
-use Rattle.object_core.specs.Standard.{is_zero_fill, is_same_shared, standard_place, empty_standard}
+use Rattle.object_core.specs.Standard.{is_zero_fill, is_same_shared, standard_place, empty_section, empty_standard}
 use Rattle.object_core.specs.Appending.{changed_at, standard_at, with_contents, offset_in, next_offset, defined_symbol, with_symbol_data, IsSection, AreSections}
 
 -- a place at which a list has a value lies in it
@@ -73,10 +74,10 @@ no_bytes : (zero_fill : Bool) (n : ℕ) → n ≡ 0 → n ≡ cond zero_fill 0 n
 no_bytes true n h = h
 no_bytes false n h = refl
 
-pub one_more : (sections longer : List SectionData) (sum : ℕ) (standard : StandardSection) → AreSections sections sum → longer ≡ sections ++ empty_standard standard ∷ [] → AreSections longer sum
-one_more sections longer sum standard h e =
-    let new : SectionData = empty_standard standard in
-    let one : IsSection new = record { contents = no_bytes (is_zero_fill new.kind) new.size refl; align = omega arith; power = one_power } in
+pub one_more : (sections longer : List SectionData) (sum : ℕ) (name : List ℕ) (kind : SectionKind) (shared : Option StandardSection) → AreSections sections sum → longer ≡ sections ++ empty_section [] name kind 0 shared ∷ [] → AreSections longer sum
+one_more sections longer sum name kind shared h e =
+    let new : SectionData = empty_section [] name kind 0 shared in
+    let one : IsSection new = record { contents = no_bytes (is_zero_fill kind) new.size refl; align = omega arith; power = one_power } in
     let all : AreSections (sections ++ new ∷ []) sum = record {
       each = All-push IsSection sections new h.each one;
       sizes = omega (arith, sum_by_push (λ (s : SectionData). s.size) sections new, h.sizes);
@@ -84,23 +85,6 @@ one_more sections longer sum standard h e =
     }
     in
     rw e all
-
-found_or_on : (b : Bool) (i : ℕ) (rest : Option ℕ) → cond b (Some i) rest ≡ None → (b ≡ false) × (rest ≡ None)
-found_or_on true i rest h = absurd (cc)
-found_or_on false i rest h = (refl, h)
-
-same_standard : (standard : StandardSection) → is_same_shared (Some standard) (Some standard) ≡ true
-same_standard standard = eq-eqb (standard_place standard) (standard_place standard) refl
-
-made_from : (test : SectionData → Bool) (sections : List SectionData) (new : SectionData) (i : ℕ) → test new ≡ true → position_from test i sections ≡ None → position_from test i (sections ++ new ∷ []) ≡ Some (i + length sections)
-made_from test [] new i p h = rw p (ap Some (omega arith))
-made_from test (s ∷ sections) new i p h =
-    let q = found_or_on (test s) i (position_from test (i + 1) sections) h in
-    rw (q.0, made_from test sections new (i + 1) p q.1) (ap Some (omega arith))
-
--- a standard section that was not used is the last one once it is made
-pub standard_made : (sections : List SectionData) (standard : StandardSection) → standard_at sections standard ≡ None → standard_at (sections ++ empty_standard standard ∷ []) standard ≡ Some (length sections)
-standard_made sections standard h = made_from (λ s. is_same_shared (Some standard) s.shared) sections (empty_standard standard) 0 (same_standard standard) h ∙ ap Some (omega arith)
 
 -- -- more contents
 

@@ -11,7 +11,7 @@ use Rattle.object_core.specs.declared.kinds.SymbolSection.{SymbolSection}
 use Rattle.object_core.specs.declared.kinds.SymbolSection.TheVariants.{Undefined, Absolute, Section}
 use Rattle.object_core.specs.declared.symbol.Symbol.{Symbol}
 use Rattle.object_core.specs.Object.{SectionData, ObjectData}
-use Rattle.object_core.specs.Standard.{is_same_shared, is_zero_fill, empty_standard}
+use Rattle.object_core.specs.Standard.{is_same_shared, is_zero_fill, empty_standard, empty_subsection}
 
 -- the list with its element of this number changed, where it has one
 abbrev pub changed_at : {A : Type 0} → ℕ → (A → A) → List A → List A
@@ -45,6 +45,10 @@ with_standard o standard (Some k) = o
 
 abbrev pub with_standard_section : ObjectData → StandardSection → ObjectData
 with_standard_section o standard = with_standard o standard (standard_at o.sections standard)
+
+-- a section beside a standard one
+abbrev pub with_subsection : ObjectData → StandardSection → ObjectData
+with_subsection o standard = record o { sections = o.sections ++ empty_subsection standard ∷ [] }
 
 -- -- contents
 

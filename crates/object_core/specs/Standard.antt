@@ -1,5 +1,5 @@
 -- The standard sections of ELF. The choice of names and kinds is this project's own.
-use Rattle.std.specs.Prelude.{ℕ, ◌==◌, Bool, true, false, List, [], codes, Option, Some, None}
+use Rattle.std.specs.Prelude.{ℕ, ◌==◌, Bool, true, false, List, [], ◌++◌, codes, Option, Some, None}
 use Rattle.object_core.specs.declared.kinds.StandardSection.{StandardSection}
 use Rattle.object_core.specs.declared.kinds.StandardSection.TheVariants.{Text, Data, ReadOnlyData, ReadOnlyDataWithRel, UninitializedData, Tls, UninitializedTls}
 use Rattle.object_core.specs.declared.kinds.SectionKind.{SectionKind}
@@ -52,3 +52,7 @@ empty_section segment name kind macho_flags shared = record { segment = segment;
 -- a standard section of ELF in which nothing is yet
 abbrev pub empty_standard : StandardSection → SectionData
 empty_standard standard = empty_section [] (standard_name standard) (standard_kind standard) 0 (Some standard)
+
+-- a section of ELF beside a standard one, in which nothing is yet
+abbrev pub empty_subsection : StandardSection → SectionData
+empty_subsection standard = empty_section [] (standard_name standard ++ codes ".subsection") (standard_kind standard) 0 None

@@ -4,8 +4,9 @@ ghost use Rattle.std.specs.Prelude.{◌≡◌, ◌<◌, ◌^◌, ℕ, List, true
 ghost use Rattle.std.specs.List.{position_from};
 ghost use Rattle.std.specs.Str.{bytes_eq};
 ghost use Rattle.std.specs.Int.{is_power_of_two};
+ghost use Rattle.ir_core.specs.declared.target.BinaryFormat.TheVariants.{Elf};
 ghost use Rattle.object_core.specs.Standard.{is_same_shared};
-ghost use Rattle.object_core.specs.Appending.{empty_object, with_symbol, file_symbol, standard_at, with_standard_section, next_offset, with_symbol_data, IsUndefined, HasBytes, AreSections};
+ghost use Rattle.object_core.specs.Appending.{empty_object, with_symbol, file_symbol, standard_at, with_standard_section, with_subsection, next_offset, with_symbol_data, IsUndefined, HasBytes, AreSections};
 
 use crate::{
     Section, SectionId, StandardSection, Symbol, SymbolId, SymbolKind, SymbolName, SymbolScope,
@@ -150,10 +151,10 @@ impl Object {
         Ok(id)
     }
 
-    #[tactic(auto, using(crate::proofs::Sections::standard_made))]
     /// The section of a standard section, which is made at its first use.
     pub fn section_id(&mut self, standard: StandardSection) -> Result<SectionId, AllocError>
-        ensures id { IfOk result (λ id. standard_at (self.new).sections standard ≡ Some id) }
+        requires { (self.old).format ≡ Elf }
+        ensures id { IfOk result (λ id. id ≡ unwrap_or (standard_at (self.old).sections standard) (length (self.old).sections)) }
         ensures ok { OnOk result (self.new ≡ with_standard_section self.old standard) }
         ensures err { OnErr result (self.new ≡ self.old) }
     {
@@ -163,6 +164,19 @@ impl Object {
         let id = SectionId::from_number(self.sections.len());
         self.sections
             .push(Section::standard(self.alloc, standard)?)?;
+        Ok(id)
+    }
+
+    /// A new section beside a standard one, under its name and `.subsection`.
+    pub fn add_subsection(&mut self, standard: StandardSection) -> Result<SectionId, AllocError>
+        requires { (self.old).format ≡ Elf }
+        ensures id { IfOk result (λ id. id ≡ length (self.old).sections) }
+        ensures ok { OnOk result (self.new ≡ with_subsection self.old standard) }
+        ensures err { OnErr result (self.new ≡ self.old) }
+    {
+        let id = SectionId::from_number(self.sections.len());
+        self.sections
+            .push(Section::subsection(self.alloc, standard)?)?;
         Ok(id)
     }
 
@@ -179,6 +193,7 @@ impl Object {
         requires power { is_power_of_two align ≡ true }
         requires symbol { IsUndefined self.old symbol }
         requires section { HasBytes self.old section }
+        requires format { (self.old).format ≡ Elf }
         requires sum { (self.old).content_sum < 2 ^ 127 }
         ensures offset { IfOk result (λ offset. offset ≡ next_offset self.old section align) }
         ensures ok { OnOk result (self.new ≡ with_symbol_data self.old symbol section contents.now align) }

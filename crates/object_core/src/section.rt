@@ -1,8 +1,8 @@
 //! Sections of an object.
 
-ghost use Rattle.std.specs.Prelude.{◌≡◌, ◌+◌, ◌<◌, ◌^◌, ℕ, List, false, true, length, IfOk, OnErr, OnOk, IsTrue};
+ghost use Rattle.std.specs.Prelude.{◌≡◌, ◌+◌, ◌<◌, ◌^◌, ℕ, List, [], true, length, IfOk, OnErr, OnOk, IsTrue};
 ghost use Rattle.std.specs.Int.{is_power_of_two, next_multiple_of};
-ghost use Rattle.object_core.specs.Standard.{empty_standard, is_zero_fill};
+ghost use Rattle.object_core.specs.Standard.{empty_section, empty_standard, empty_subsection};
 ghost use Rattle.object_core.specs.Appending.{with_contents, offset_in};
 
 use crate::placing::append_padded;
@@ -106,18 +106,19 @@ impl Section {
         ensures { IfOk result (λ s. s ≡ empty_standard standard) }
     {
         let name = standard.name().to_vec(alloc)?;
-        Ok(Section {
-            segment: Vec::new(alloc),
-            name,
-            kind: standard.kind(),
-            macho_flags: 0,
-            retain: false,
-            align: 1,
-            size: 0,
-            contents: Vec::new(alloc),
-            relocations: Vec::new(alloc),
-            shared: Some(standard),
-        })
+        Ok(empty_section(alloc, name, standard.kind(), Some(standard)))
+    }
+
+    /// A section beside a standard one, in which nothing is yet.
+    pub(crate) fn subsection(
+        alloc: Global,
+        standard: StandardSection,
+    ) -> Result<Section, AllocError>
+        ensures { IfOk result (λ s. s ≡ empty_subsection standard) }
+    {
+        let mut name = standard.name().to_vec(alloc)?;
+        name.extend_from_slice(b".subsection")?;
+        Ok(empty_section(alloc, name, standard.kind(), None))
     }
 
     /// Appends contents behind zeros up to their alignment, and answers their offset.
@@ -134,5 +135,27 @@ impl Section {
         self.size = offset + contents.len() as u128;
         self.align = self.align.max(align);
         Ok(offset)
+    }
+}
+
+fn empty_section(
+    alloc: Global,
+    name: Vec<u8>,
+    kind: SectionKind,
+    shared: Option<StandardSection>,
+) -> Section
+    ensures { result ≡ empty_section [] name.items kind 0 shared }
+{
+    Section {
+        segment: Vec::new(alloc),
+        name,
+        kind,
+        macho_flags: 0,
+        retain: false,
+        align: 1,
+        size: 0,
+        contents: Vec::new(alloc),
+        relocations: Vec::new(alloc),
+        shared,
     }
 }

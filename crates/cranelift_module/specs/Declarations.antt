@@ -1,0 +1,50 @@
+-- What a contract sees of the declarations, and how a map finds the names among them.
+use Rattle.std.specs.Prelude.{◌≡◌, ℕ, zero, suc, ◌+◌, ◌≤◌, length, List, [], ◌∷◌, Option, Some, None, option_map, String}
+use Rattle.std.specs.Global.{Global}
+use Rattle.std.specs.List.{position_from}
+use Rattle.std.specs.Option.{option_or}
+use Rattle.std.specs.BTreeMap.{BTreeMap, get_by_text}
+use Rattle.cranelift_module.specs.declared.identifiers.FuncOrDataId.{FuncOrDataId}
+use Rattle.cranelift_module.specs.declared.identifiers.FuncOrDataId.TheVariants.{Func, Data}
+use Rattle.cranelift_module.specs.Rows.{FunctionRow, DataRow}
+use Rattle.cranelift_module.specs.LinkState.{is_function_named, is_data_named}
+
+-- the declared functions and data objects; the place in its list is the number of an identifier
+pub record DeclarationLists : Type 0 where
+  pub functions : List FunctionRow
+  pub objects : List DataRow
+
+-- the identifier that is declared under a name
+abbrev pub declared_under : DeclarationLists → List ℕ → Option FuncOrDataId
+declared_under d name = option_or (option_map (λ n. Func n) (position_from (is_function_named name) 0 d.functions)) (option_map (λ n. Data n) (position_from (is_data_named name) 0 d.objects))
+
+-- the number of a function that was found
+abbrev pub function_found : Option FuncOrDataId → Option ℕ
+function_found (Some (Func n)) = Some n
+function_found _ = None
+
+-- the number of a data object that was found
+abbrev pub data_found : Option FuncOrDataId → Option ℕ
+data_found (Some (Data n)) = Some n
+data_found _ = None
+
+-- a map finds each name where it stands in the lists
+pub record FindsNames (names : BTreeMap (String Global) FuncOrDataId) (functions : List FunctionRow) (objects : List DataRow) : Type 0 where
+  pub at_function : (name : List ℕ) → function_found (get_by_text names name) ≡ position_from (is_function_named name) 0 functions
+  pub at_data : (name : List ℕ) → data_found (get_by_text names name) ≡ position_from (is_data_named name) 0 objects
+
+-- what stands of the declarations at every moment: names are found, and an identifier is below 2^32 - 1
+pub record IsSound (names : BTreeMap (String Global) FuncOrDataId) (functions : List FunctionRow) (objects : List DataRow) : Type 0 where
+  pub finds : FindsNames names functions objects
+  pub few : length functions ≤ 4294967295
+
+-- the functions with their numbers, from this number on
+abbrev pub numbered : ℕ → List FunctionRow → List (ℕ × FunctionRow)
+numbered n [] = []
+numbered n (row ∷ rows) = (n, row) ∷ numbered (n + 1) rows
+
+-- the list with the element at this place changed
+abbrev pub changed_at : {A : Type 0} → ℕ → (A → A) → List A → List A
+changed_at k change [] = []
+changed_at zero change (x ∷ xs) = change x ∷ xs
+changed_at (suc k) change (x ∷ xs) = x ∷ changed_at k change xs

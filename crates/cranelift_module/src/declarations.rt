@@ -1,0 +1,252 @@
+//! The declarations of a module: functions and data objects by number, and their names.
+
+ghost use Rattle.std.specs.Prelude.{◌≡◌, ◌<◌, ◌≤◌, ◌+◌, ◌++◌, ◌∷◌, [], ℕ, Some, None, IfOk, IfErr, OnOk, OnErr, length, option_map, slice_get, string_bytes, string_cmp, option_copied, is_some, true, false};
+ghost use Rattle.std.specs.BTreeMap.{IsUnchanged, Updates, get_by_text};
+ghost use Rattle.cranelift_module.specs.declared.identifiers.FuncOrDataId.TheVariants.{Func};
+ghost use Rattle.std.specs.List.{find, list_any, position_from};
+ghost use Rattle.cranelift_module.specs.declared.linkage.Linkage.TheVariants.{Local};
+ghost use Rattle.cranelift_module.specs.LinkState.{is_function_named, with_first, raised_function};
+ghost use Rattle.cranelift_module.specs.Declarations.{changed_at, function_found, numbered};
+ghost use Rattle.cranelift_module.specs.Refusal.{Tells, changes_signature, function_clash};
+
+use crate::{
+    DataDeclaration, FuncId, FuncOrDataId, FunctionDeclaration, Functions, Linkage, ModuleError,
+    ModuleRelocTarget, ModuleResult,
+};
+use ir_core::Signature;
+use std::alloc::{AllocError, Global};
+use std::collections::BTreeMap;
+use std::marker::Model;
+
+/// The declared functions and data objects. The place in its list is the number of an identifier.
+#[derive(Debug, Drop)]
+pub struct ModuleDeclarations {
+    alloc: Global,
+    names: BTreeMap<String, FuncOrDataId>,
+    functions: Vec<FunctionDeclaration>,
+    objects: Vec<DataDeclaration>,
+}
+
+impl Model for ModuleDeclarations {
+    ghost use Rattle.cranelift_module.specs.Declarations.{DeclarationLists, IsSound};
+
+    ghost Value = { DeclarationLists };
+
+    ghost view = { λ d. record { functions = d.functions.items; objects = d.objects.items } };
+
+    ghost invariant = { λ d. IsSound d.names d.functions.items d.objects.items };
+}
+
+impl ModuleDeclarations {
+    ghost use Rattle.cranelift_module.specs.Declarations.{declared_under};
+    ghost use Rattle.cranelift_module.specs.Texts.{IsUser, is_function_target};
+
+    /// No declarations.
+    pub fn new(alloc: Global) -> Self
+        ensures { result ≡ record { functions = []; objects = [] } }
+    {
+        ModuleDeclarations {
+            alloc,
+            names: BTreeMap::new(alloc),
+            functions: Vec::new(alloc),
+            objects: Vec::new(alloc),
+        }
+    }
+
+    /// What is declared under a name.
+    pub fn get_name(&self, name: &str) -> Option<FuncOrDataId>
+        ensures { result ≡ declared_under self.now name.now }
+    {
+        found(&self.names, name)
+    }
+
+    /// The declared functions with their identifiers, by number.
+    pub fn get_functions(&self) -> Functions<'_>
+        ensures pairs { result ≡ numbered 0 (self.now).functions }
+        ensures bound { length result ≤ 4294967295 }
+    {
+        Functions::new(&self.functions)
+    }
+
+    /// Whether a function is declared under a name.
+    pub fn has_function(&self, name: &str) -> bool
+        ensures { result ≡ list_any (is_function_named name.now) (self.now).functions }
+    {
+        is_function_id(found(&self.names, name))
+    }
+
+    /// Whether a target of a user is a function: one of namespace 0.
+    pub fn is_function(target: &ModuleRelocTarget) -> bool
+        requires { IsUser target.now }
+        ensures { result ≡ is_function_target target.now }
+    {
+        matches!(
+            target,
+            ModuleRelocTarget::User {
+                namespace: 0,
+                index: _
+            }
+        )
+    }
+
+    /// The declaration of a function, where it is declared.
+    pub fn function(&self, id: FuncId) -> Option<&FunctionDeclaration>
+        ensures { option_copied result ≡ slice_get (self.now).functions id }
+    {
+        self.functions.get(id.as_u32() as usize)
+    }
+
+    /// The declaration of a declared function.
+    pub fn get_function_decl(&self, id: FuncId) -> &FunctionDeclaration
+        requires { id < length (self.now).functions }
+        ensures { slice_get (self.now).functions id ≡ Some result.now }
+    {
+        &self.functions[id.as_u32() as usize]
+    }
+
+    /// A new name gets the next number; a known one keeps its number and its signature, and gets the
+    /// greatest linkage. It answers the number and that linkage.
+    pub fn declare_function(
+        &mut self,
+        name: &str,
+        linkage: Linkage,
+        signature: &Signature,
+    ) -> ModuleResult<(FuncId, Linkage)>
+        requires { length (self.old).functions < 4294967295 }
+        ensures accepted { OnOk result (function_clash (self.old).functions (self.old).objects name.now signature.now ≡ None) }
+        ensures declared { OnOk result (self.new ≡ record self.old { functions = with_first (is_function_named name.now) (raised_function linkage) (record { name = Some name.now; linkage = linkage; signature = signature.now }) (self.old).functions }) }
+        ensures id { IfOk result (λ answer. position_from (is_function_named name.now) 0 (self.new).functions ≡ Some answer.0) }
+        ensures linkage { IfOk result (λ answer. option_map (λ row. row.linkage) (slice_get (self.new).functions answer.0) ≡ Some answer.1) }
+        ensures new { IfOk result (λ answer. list_any (is_function_named name.now) (self.old).functions ≡ false → answer.0 ≡ length (self.old).functions) }
+        ensures count { length (self.new).functions ≤ length (self.old).functions + 1 }
+        ensures refused { IfErr result (λ e. Tells e (function_clash (self.old).functions (self.old).objects name.now signature.now)) }
+        ensures kept { OnErr result (self.new ≡ self.old) }
+    {
+        match found(&self.names, name) {
+            None => declare_first(
+                self.alloc,
+                &mut self.names,
+                &mut self.functions,
+                name,
+                linkage,
+                signature,
+            ),
+            Some(known) => match known {
+                FuncOrDataId::Func(id) => {
+                    declare_again(
+                        self.alloc,
+                        &mut self.functions,
+                        id,
+                        name,
+                        linkage,
+                        signature,
+                    )
+                }
+                FuncOrDataId::Data(_) => {
+                    let name = String::from_str(self.alloc, name)?;
+                    Err(ModuleError::IncompatibleDeclaration(name))
+                }
+            },
+        }
+    }
+
+    /// A function without a name: the next number, Local.
+    pub fn declare_anonymous_function(&mut self, signature: &Signature) -> ModuleResult<FuncId>
+        requires { length (self.old).functions < 4294967295 }
+        ensures declared { OnOk result (self.new ≡ record self.old { functions = (self.old).functions ++ record { name = None; linkage = Local; signature = signature.now } ∷ [] }) }
+        ensures id { IfOk result (λ id. id ≡ length (self.old).functions) }
+        ensures refused { IfErr result (λ e. Tells e None) }
+        ensures kept { OnErr result (self.new ≡ self.old) }
+    {
+        let signature = signature.copy()?;
+        let id = FuncId::from_u32(self.functions.len() as u32);
+        self.functions
+            .push(FunctionDeclaration::new(None, Linkage::Local, signature))?;
+        Ok(id)
+    }
+}
+
+// What the map has at a name.
+fn found(names: &BTreeMap<String, FuncOrDataId>, name: &str) -> Option<FuncOrDataId>
+    ensures { result ≡ get_by_text names.now name.now }
+{
+    names.get(name).copied()
+}
+
+// Whether a function was found.
+fn is_function_id(found: Option<FuncOrDataId>) -> bool
+    ensures { result ≡ is_some (function_found found) }
+{
+    match found {
+        Some(known) => match known {
+            FuncOrDataId::Func(_) => true,
+            FuncOrDataId::Data(_) => false,
+        },
+        None => false,
+    }
+}
+
+// A known function keeps its number and its signature, and gets the greater linkage.
+fn declare_again(
+    alloc: Global,
+    functions: &mut Vec<FunctionDeclaration>,
+    id: FuncId,
+    name: &str,
+    linkage: Linkage,
+    signature: &Signature,
+) -> ModuleResult<(FuncId, Linkage)>
+    requires { position_from (is_function_named name.now) 0 functions.old.items ≡ Some id }
+    ensures accepted { OnOk result (changes_signature name.now signature.now (find (is_function_named name.now) functions.old.items) ≡ None) }
+    ensures declared { OnOk result (functions.new.items ≡ with_first (is_function_named name.now) (raised_function linkage) (record { name = Some name.now; linkage = linkage; signature = signature.now }) functions.old.items) }
+    ensures found { OnOk result (functions.new.items ≡ changed_at id (raised_function linkage) functions.old.items) }
+    ensures id { IfOk result (λ answer. position_from (is_function_named name.now) 0 functions.new.items ≡ Some answer.0) }
+    ensures linkage { IfOk result (λ answer. option_map (λ row. row.linkage) (slice_get functions.new.items answer.0) ≡ Some answer.1) }
+    ensures known { OnOk result (list_any (is_function_named name.now) functions.old.items ≡ true) }
+    ensures count { length functions.new.items ≤ length functions.old.items + 1 }
+    ensures refused { IfErr result (λ e. Tells e (changes_signature name.now signature.now (find (is_function_named name.now) functions.old.items))) }
+    ensures kept { OnErr result (functions.new.items ≡ functions.old.items) }
+{
+    let known = &mut functions[id.as_u32() as usize];
+    if !known.signature().is_same(signature) {
+        let name = String::from_str(alloc, name)?;
+        let old = known.signature().copy()?;
+        let new = signature.copy()?;
+        return Err(ModuleError::IncompatibleSignature(name, old, new));
+    }
+    known.raise(linkage);
+    Ok((id, known.linkage()))
+}
+
+// A new function stands at the end, and its name is found; both, or nothing.
+fn declare_first(
+    alloc: Global,
+    names: &mut BTreeMap<String, FuncOrDataId>,
+    functions: &mut Vec<FunctionDeclaration>,
+    name: &str,
+    linkage: Linkage,
+    signature: &Signature,
+) -> ModuleResult<(FuncId, Linkage)>
+    requires few { length functions.old.items < 4294967295 }
+    requires new { position_from (is_function_named name.now) 0 functions.old.items ≡ None }
+    ensures declared { OnOk result (functions.new.items ≡ with_first (is_function_named name.now) (raised_function linkage) (record { name = Some name.now; linkage = linkage; signature = signature.now }) functions.old.items) }
+    ensures pushed { OnOk result (functions.new.items ≡ functions.old.items ++ record { name = Some name.now; linkage = linkage; signature = signature.now } ∷ []) }
+    ensures id { IfOk result (λ answer. position_from (is_function_named name.now) 0 functions.new.items ≡ Some answer.0) }
+    ensures linkage { IfOk result (λ answer. option_map (λ row. row.linkage) (slice_get functions.new.items answer.0) ≡ Some answer.1) }
+    ensures number { IfOk result (λ answer. answer.0 ≡ length functions.old.items) }
+    ensures count { length functions.new.items ≤ length functions.old.items + 1 }
+    ensures found { OnOk result ((text : _) × (string_bytes text ≡ name.now) × Updates string_cmp names.old names.new text (Some (Func (length functions.old.items)))) }
+    ensures refused { IfErr result (λ e. Tells e None) }
+    ensures kept { OnErr result (functions.new.items ≡ functions.old.items) }
+    ensures names_kept { OnErr result (IsUnchanged names.old names.new) }
+{
+    let id = FuncId::from_u32(functions.len() as u32);
+    let key = String::from_str(alloc, name)?;
+    let name = Some(String::from_str(alloc, name)?);
+    let declaration = FunctionDeclaration::new(name, linkage, signature.copy()?);
+    functions.reserve(1)?;
+    names.insert(key, FuncOrDataId::Func(id))?;
+    if functions.push(declaration).is_err() {
+        unreachable!()
+    }
+    Ok((id, linkage))
+}

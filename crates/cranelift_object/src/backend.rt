@@ -1,0 +1,166 @@
+//! The module that makes an object file.
+
+ghost use Rattle.std.specs.Prelude.{◌≡◌, ◌≢◌, refl, ◌<◌, ◌++◌, ◌∷◌, ℕ, [], false, vec_len, vec_capacity, None, Some, length, IfOk, IfErr, OnOk, OnErr};
+ghost use Rattle.std.proofs.Common.{◌∙◌};
+ghost use Rattle.std.specs.List.{position_from};
+ghost use Rattle.cranelift_module.specs.LinkState.{LinkState, state_of, is_function_named};
+ghost use Rattle.cranelift_module.specs.IsCall.{IsCall};
+ghost use Rattle.cranelift_module.specs.Call as calls;
+ghost use Rattle.cranelift_module.specs.Refusal.{Tells, is_defined};
+ghost use Rattle.cranelift_module.specs.declared.identifiers.FuncOrDataId.TheVariants.{Func};
+
+use crate::ObjectBuilder;
+use crate::definition::Definition;
+use cranelift_module::{
+    FuncId, FuncOrDataId, Linkage, Module, ModuleDeclarations, ModuleReloc, ModuleResult,
+    check_definable, check_no_zero_byte,
+};
+use ir_core::{Signature, TargetIsa};
+use std::marker::Model;
+
+/// A module whose calls are kept until it is finished. A contract sees its settings and its link state.
+#[derive(Drop)]
+pub struct ObjectModule {
+    pub(crate) builder: ObjectBuilder,
+    pub(crate) declarations: ModuleDeclarations,
+    pub(crate) created: Vec<FuncOrDataId>,
+    pub(crate) definitions: Vec<Definition>,
+    pub(crate) defined: Vec<bool>,
+}
+
+impl Model for ObjectModule {
+    ghost use Rattle.cranelift_object.specs.Opened.{OpenModule};
+
+    ghost Value = { OpenModule };
+
+    ghost use Rattle.cranelift_object.specs.Kept.{IsModule};
+
+    ghost view = { λ m. record { settings = m.builder.settings; state = record { target = m.builder.target; functions = m.declarations.functions; objects = m.declarations.objects; created = m.created.items; definitions = m.definitions.items } } };
+
+    ghost invariant = { λ m. IsModule (record { settings = m.builder.settings; state = record { target = m.builder.target; functions = m.declarations.functions; objects = m.declarations.objects; created = m.created.items; definitions = m.definitions.items } }) m.defined.items };
+}
+
+impl ObjectModule {
+    #[tactic(auto, using(crate::proofs::KeptLaws::kept_none, crate::proofs::KeptLaws::state_of_none))]
+    /// A module without declarations. Only memory can run out.
+    pub fn new(builder: ObjectBuilder) -> ModuleResult<Self>
+        ensures ok { IfOk result (λ m. m ≡ record { settings = builder.settings; state = state_of builder.target [] }) }
+        ensures err { IfErr result (λ e. Tells e None) }
+    {
+        let alloc = builder.alloc();
+        Ok(ObjectModule {
+            builder,
+            declarations: ModuleDeclarations::new(alloc),
+            created: Vec::new(alloc),
+            definitions: Vec::new(alloc),
+            defined: Vec::new(alloc),
+        })
+    }
+
+    // Whether a function has a definition.
+    pub(crate) fn is_defined(&self, function: FuncId) -> bool
+        ensures { result ≡ is_defined (self.now).state (Func function) }
+    {
+        self.defined
+            .get(function.as_u32() as usize)
+            .copied()
+            .unwrap_or(false)
+    }
+}
+
+impl Module for ObjectModule {
+    ghost state = { λ m. m.state };
+
+    ghost Keeps = { λ a b. b.settings ≡ a.settings };
+
+    ghost keeps_same = { λ m. refl };
+
+    ghost keeps_on = { λ a b c h k. k ∙ h };
+
+    fn isa(&self) -> &TargetIsa {
+        self.builder.isa()
+    }
+
+    fn declarations(&self) -> &ModuleDeclarations {
+        &self.declarations
+    }
+
+    #[tactic(auto, unfolding(cranelift_module::specs::LinkState::step, cranelift_module::specs::Refusal::refusal))]
+    fn declare_function(
+        &mut self,
+        name: &str,
+        linkage: Linkage,
+        signature: &Signature,
+    ) -> ModuleResult<FuncId> {
+        if let Err(error) = check_no_zero_byte(name.as_bytes()) {
+            return Err(error);
+        }
+        self.created.reserve(1)?;
+        self.defined.reserve(1)?;
+        let declared = match self.declarations.declare_function(name, linkage, signature) {
+            Ok(declared) => declared,
+            Err(error) => return Err(error),
+        };
+        let id = declared.0;
+        note_new(&mut self.created, &mut self.defined, id);
+        Ok(id)
+    }
+
+    #[tactic(auto, unfolding(cranelift_module::specs::LinkState::step, cranelift_module::specs::Refusal::refusal))]
+    fn declare_anonymous_function(&mut self, signature: &Signature) -> ModuleResult<FuncId> {
+        self.created.reserve(1)?;
+        self.defined.reserve(1)?;
+        let id = self.declarations.declare_anonymous_function(signature)?;
+        note_function(&mut self.created, &mut self.defined, id);
+        Ok(id)
+    }
+
+    #[tactic(auto, unfolding(cranelift_module::specs::LinkState::step, cranelift_module::specs::Refusal::refusal))]
+    fn define_function_bytes(
+        &mut self,
+        func_id: FuncId,
+        alignment: u64,
+        bytes: &[u8],
+        _relocs: &[ModuleReloc],
+    ) -> ModuleResult<()> {
+        let alloc = self.builder.alloc();
+        let defined = self.is_defined(func_id);
+        if let Err(error) = check_definable(
+            alloc,
+            &self.declarations,
+            defined,
+            func_id,
+            alignment,
+        ) {
+            return Err(error);
+        }
+        let definition = Definition::of_function(alloc, func_id, bytes)?;
+        self.definitions.push(definition)?;
+        self.defined[func_id.as_u32() as usize] = true;
+        Ok(())
+    }
+}
+
+// Notes a function, where no function of its number was noted. Room was made before.
+fn note_new(created: &mut Vec<FuncOrDataId>, defined: &mut Vec<bool>, id: FuncId)
+    requires created { vec_len created.old < vec_capacity created.old }
+    requires defined { vec_len defined.old < vec_capacity defined.old }
+    ensures new { id ≡ length defined.old.items → (created.new.items ≡ created.old.items ++ Func id ∷ []) × (defined.new.items ≡ defined.old.items ++ false ∷ []) }
+    ensures known { id ≢ length defined.old.items → (created.new.items ≡ created.old.items) × (defined.new.items ≡ defined.old.items) }
+{
+    if id.as_u32() as usize == defined.len() {
+        note_function(created, defined, id);
+    }
+}
+
+// A new function has no definition. Room for both was made before.
+fn note_function(created: &mut Vec<FuncOrDataId>, defined: &mut Vec<bool>, id: FuncId)
+    requires created { vec_len created.old < vec_capacity created.old }
+    requires defined { vec_len defined.old < vec_capacity defined.old }
+    ensures created { created.new.items ≡ created.old.items ++ Func id ∷ [] }
+    ensures defined { defined.new.items ≡ defined.old.items ++ false ∷ [] }
+{
+    if created.push(FuncOrDataId::Func(id)).is_err() || defined.push(false).is_err() {
+        unreachable!()
+    }
+}

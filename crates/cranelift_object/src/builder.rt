@@ -1,0 +1,141 @@
+//! What a module is begun with: its target, the file's name and the options.
+
+ghost use Rattle.std.specs.Prelude.{◌≡◌, ◌≢◌, None, map, string_bytes, IfOk, IfErr, OnOk};
+ghost use Rattle.ir_core.specs.declared.target.BinaryFormat.TheVariants.{Macho};
+ghost use Rattle.cranelift_module.specs.Refusal.{Tells, first_cause, zero_byte};
+ghost use Rattle.cranelift_object.specs.Settings.{plain_settings};
+ghost use Rattle.cranelift_object.specs.Kept.{IsBegun};
+ghost use Rattle.cranelift_object.specs.Part.{start_cause, is_supported};
+
+use cranelift_module::{BackendCause, LibcallNames, ModuleError, ModuleResult, check_no_zero_byte};
+use ir_core::{Architecture, BinaryFormat, TargetIsa};
+use std::alloc::Global;
+use std::marker::Model;
+
+/// The settings of a module that is still to be made. A contract sees them with the target.
+#[derive(Drop)]
+pub struct ObjectBuilder {
+    alloc: Global,
+    isa: TargetIsa,
+    name: Vec<u8>,
+    libcall_names: LibcallNames,
+    function_sections: bool,
+    data_sections: bool,
+}
+
+impl Model for ObjectBuilder {
+    ghost use Rattle.cranelift_object.specs.Settings.{Settings};
+    ghost use Rattle.cranelift_object.specs.Opened.{BuilderData};
+
+    ghost Value = { BuilderData };
+
+    ghost view = { λ b. record { settings = record { file_name = b.name.items; library_names = b.libcall_names; function_sections = b.function_sections; data_sections = b.data_sections }; target = b.isa } };
+
+    ghost use Rattle.cranelift_object.specs.Kept.{IsBegun};
+
+    ghost invariant = { λ b. IsBegun (record { settings = record { file_name = b.name.items; library_names = b.libcall_names; function_sections = b.function_sections; data_sections = b.data_sections }; target = b.isa }) };
+}
+
+impl ObjectBuilder {
+    #[tactic(auto, using(crate::proofs::KeptLaws::supported_elf), unfolding(crate::specs::Part::start_cause))]
+    /// Settings with both options off. A target that isn't built, a zero byte in the file's name and one in a text of
+    /// a library call are refused. Mach-O comes with a later stage.
+    pub fn new(
+        alloc: Global,
+        isa: TargetIsa,
+        name: &[u8],
+        libcall_names: LibcallNames,
+    ) -> ModuleResult<Self>
+        requires { isa.triple.binary_format ≢ Macho }
+        ensures ok { IfOk result (λ b. b ≡ record { settings = plain_settings name.now libcall_names; target = isa }) }
+        ensures none { OnOk result (start_cause (plain_settings name.now libcall_names) isa ≡ None) }
+        ensures cause { IfErr result (λ e. Tells e (start_cause (plain_settings name.now libcall_names) isa)) }
+    {
+        let triple = isa.triple();
+        if !is_supported(triple.architecture, triple.binary_format) {
+            return Err(ModuleError::Backend(BackendCause::UnsupportedTarget));
+        }
+        check_no_zero_byte(name)?;
+        check_texts(libcall_names.texts())?;
+        let name = name.to_vec(alloc)?;
+        Ok(ObjectBuilder {
+            alloc,
+            isa,
+            name,
+            libcall_names,
+            function_sections: false,
+            data_sections: false,
+        })
+    }
+
+    /// Whether each function gets a section of its own.
+    pub fn per_function_section(&mut self, on: bool) -> &mut Self
+        ensures same { result.ghost_name ≡ self.entry.ghost_name }
+        ensures value { result.now ≡ record self.old { settings = record (self.old).settings { function_sections = on } } }
+    {
+        self.function_sections = on;
+        self
+    }
+
+    /// Whether each data object gets a section of its own.
+    pub fn per_data_object_section(&mut self, on: bool) -> &mut Self
+        ensures same { result.ghost_name ≡ self.entry.ghost_name }
+        ensures value { result.now ≡ record self.old { settings = record (self.old).settings { data_sections = on } } }
+    {
+        self.data_sections = on;
+        self
+    }
+
+    pub(crate) fn alloc(&self) -> Global
+        ensures { IsBegun self.now }
+    {
+        self.alloc
+    }
+
+    pub(crate) fn isa(&self) -> &TargetIsa
+        ensures { result.now ≡ (self.now).target }
+    {
+        &self.isa
+    }
+
+    pub(crate) fn name(&self) -> &[u8]
+        ensures { result.now ≡ ((self.now).settings).file_name }
+    {
+        &self.name
+    }
+
+    pub(crate) fn function_sections(&self) -> bool
+        ensures { result ≡ ((self.now).settings).function_sections }
+    {
+        self.function_sections
+    }
+}
+
+fn is_supported(architecture: Architecture, format: BinaryFormat) -> bool
+    ensures { result ≡ is_supported architecture format }
+{
+    match format {
+        BinaryFormat::Elf => matches!(
+            architecture,
+            Architecture::X86_64 | Architecture::Aarch64 | Architecture::Riscv64
+        ),
+        BinaryFormat::Macho => {
+            matches!(architecture, Architecture::X86_64 | Architecture::Aarch64)
+        }
+        _ => false,
+    }
+}
+
+// Refuses the first text that has a zero byte.
+#[tactic(auto, using(crate::proofs::FirstCause::texts_step, crate::proofs::FirstCause::texts_end))]
+fn check_texts(texts: &[String]) -> ModuleResult<()>
+    ensures accepted { OnOk result (first_cause (map zero_byte (map string_bytes texts.now)) ≡ None) }
+    ensures refused { IfErr result (λ e. Tells e (first_cause (map zero_byte (map string_bytes texts.now)))) }
+{
+    for text in texts {
+        if let Err(error) = check_no_zero_byte(text.as_bytes()) {
+            return Err(error);
+        }
+    }
+    Ok(())
+}

@@ -1,0 +1,2 @@
+pub mod FirstRefused
+pub mod PartCause

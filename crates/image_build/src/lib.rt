@@ -1,0 +1,13 @@
+//! Lists of parts, built to the bytes of a file.
+//!
+//! It stands on the module and the writers. The layer above may rely on this: the bytes are exactly
+//! what the parts build, and an error names the part, the place and the first cause.
+#![tactic(auto)]
+
+mod build;
+mod error;
+mod part;
+
+pub use build::build_image;
+pub use error::{BuildCause, BuildError, Place};
+pub use part::Part;

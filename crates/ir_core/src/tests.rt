@@ -1,0 +1,104 @@
+use crate::{
+    AbiParam, Architecture, ArgumentExtension, ArgumentPurpose, BinaryFormat, CallConv,
+    Environment, KnownSymbol, LibCall, Reloc, Signature, System, TargetIsa, Triple, ValueType,
+};
+use std::test::Fail;
+
+const NARROW: AbiParam = AbiParam {
+    value_type: ValueType::I8,
+    extension: ArgumentExtension::Uext,
+    purpose: ArgumentPurpose::Normal,
+};
+
+const CONTEXT: AbiParam = AbiParam {
+    value_type: ValueType::I64,
+    extension: ArgumentExtension::None,
+    purpose: ArgumentPurpose::VMContext,
+};
+
+const BOTH: AbiParam = AbiParam {
+    value_type: ValueType::I32,
+    extension: ArgumentExtension::Sext,
+    purpose: ArgumentPurpose::StructReturn,
+};
+
+#[test]
+fn a_signature_prints_its_values_and_its_convention(rt: HostRuntime) -> Result<(), Fail> {
+    let alloc = rt.alloc();
+    let mut signature = Signature::new(alloc, CallConv::SystemV);
+    assert_eq!(rt; signature.to_string(alloc)?.as_str(), "() system_v");
+    signature.push_param(NARROW)?;
+    assert_eq!(rt; signature.to_string(alloc)?.as_str(), "(i8 uext) system_v");
+    signature.push_param(CONTEXT)?;
+    signature.push_return(BOTH)?;
+    signature.push_return(AbiParam::new(ValueType::F64))?;
+    assert_eq!(rt;
+        signature.to_string(alloc)?.as_str(),
+        "(i8 uext, i64 vmctx) -> i32 sext sret, f64 system_v"
+    );
+    signature.clear(CallConv::AppleAarch64);
+    assert_eq!(rt; signature.to_string(alloc)?.as_str(), "() apple_aarch64");
+    Ok(())
+}
+
+#[test]
+fn a_copy_of_a_signature_is_equal_and_stays_when_the_other_changes(
+    rt: HostRuntime,
+) -> Result<(), Fail> {
+    let mut signature = Signature::new(rt.alloc(), CallConv::Fast);
+    signature.push_param(AbiParam::new(ValueType::I32))?;
+    let copy = signature.copy()?;
+    assert!(rt; copy == signature);
+    signature.push_return(AbiParam::new(ValueType::I32))?;
+    assert!(rt; copy != signature);
+    assert_eq!(rt; copy.params().len(), 1);
+    assert_eq!(rt; copy.returns().len(), 0);
+    Ok(())
+}
+
+#[test]
+fn flags_stand_in_the_order_in_which_they_were_pushed(rt: HostRuntime) -> Result<(), Fail> {
+    let triple = Triple {
+        architecture: Architecture::Aarch64,
+        binary_format: BinaryFormat::Macho,
+        system: System::MacOSX,
+        version: None,
+        environment: Environment::Unknown,
+    };
+    let mut isa = TargetIsa::new(rt.alloc(), triple);
+    isa.push_flag("is_pic", Some(true))?;
+    isa.push_flag("tls_model", None)?;
+    assert_eq!(rt; isa.flags().len(), 2);
+    assert_eq!(rt; isa.flags()[0].name(), "is_pic");
+    assert_eq!(rt; isa.flags()[1].name(), "tls_model");
+    assert_eq!(rt; isa.flags()[0].value(), Some(true));
+    assert_eq!(rt; isa.flags()[1].value(), None);
+    assert_eq!(rt; isa.symbol_alignment(), 4);
+    assert_eq!(rt;
+        isa.frontend_config().default_call_conv,
+        CallConv::AppleAarch64
+    );
+    Ok(())
+}
+
+#[test]
+fn kinds_and_names_print_as_they_are_written(rt: HostRuntime) -> Result<(), Fail> {
+    let alloc = rt.alloc();
+    assert_eq!(rt;
+        Reloc::X86CallPLTRel4.to_string(alloc)?.as_str(),
+        "X86CallPLTRel4"
+    );
+    assert_eq!(rt;
+        Reloc::ElfX86_64TlsGd.to_string(alloc)?.as_str(),
+        "ElfX86_64TlsGd"
+    );
+    assert_eq!(rt;
+        LibCall::ElfTlsGetOffset.to_string(alloc)?.as_str(),
+        "ElfTlsGetOffset"
+    );
+    assert_eq!(rt;
+        KnownSymbol::ElfGlobalOffsetTable.to_string(alloc)?.as_str(),
+        "ElfGlobalOffsetTable"
+    );
+    Ok(())
+}

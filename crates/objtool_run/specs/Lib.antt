@@ -1,0 +1,6 @@
+pub mod Words
+pub mod Fault
+pub mod Form
+pub mod SignatureForm
+pub mod Script
+pub mod Run

@@ -1,0 +1,122 @@
+-- The list of parts that a JSON value stands for.
+use Rattle.std.specs.Prelude.{◌≡◌, ℕ, ◌<◌, ◌==◌, ◌&&◌, Bool, true, false, not, List, [], ◌∷◌, length, slice_get, codes, if◌then◌else◌, Option, Some, None}
+use Rattle.std.specs.List.{list_any, list_all, filter_map}
+use Rattle.std.specs.Str.{bytes_eq, IsUtf8}
+use Rattle.serde_json.specs.Data.{Data, Items, no_items, item}
+use Rattle.serde_json.specs.Find.{as_array}
+use Rattle.serde_json.specs.Read.{read}
+use Rattle.ir_core.specs.Target.{Target, default_call_conv}
+use Rattle.ir_core.specs.declared.types.CallConv.{CallConv}
+use Rattle.ir_core.specs.declared.target.Architecture.TheVariants.{X86_64}
+use Rattle.ir_core.specs.declared.target.BinaryFormat.TheVariants.{Elf}
+use Rattle.ir_core.specs.declared.target.System.TheVariants as systems
+use Rattle.ir_core.specs.declared.target.Environment.TheVariants as environments
+use Rattle.cranelift_module.specs.declared.linkage.Linkage.{Linkage}
+use Rattle.cranelift_module.specs.declared.linkage.Linkage.TheVariants.{Import, Local, Preemptible, Hidden, Export}
+use Rattle.cranelift_module.specs.Call.{Call, declare_function, declare_anonymous_function, declare_data, declare_anonymous_data, define_function, define_data}
+use Rattle.cranelift_module.specs.LibraryNames.{usual_texts}
+use Rattle.image_build.specs.Built.{BuildPart, commands}
+use Rattle.objtool_run.specs.SignatureForm.{signature_at}
+use Rattle.objtool_run.specs.Form.{◌>>=◌, each_of, text_at, items_at, u32_at, hex_at, with_keys}
+
+-- -- commands
+
+abbrev pub linkage_of : List ℕ → Option Linkage
+linkage_of text =
+    if bytes_eq text (codes "Import") then Some Import
+    else if bytes_eq text (codes "Local") then Some Local
+    else if bytes_eq text (codes "Preemptible") then Some Preemptible
+    else if bytes_eq text (codes "Hidden") then Some Hidden
+    else if bytes_eq text (codes "Export") then Some Export
+    else None
+
+-- a declaration; where it names no signature, the function has the target's default convention
+unfoldable pub declare_of : CallConv → Data → Option Call
+declare_of convention d = with_keys (codes "op" ∷ codes "name" ∷ codes "linkage" ∷ codes "signature" ∷ []) d do
+  name ← text_at (codes "name") d
+  text ← text_at (codes "linkage") d
+  linkage ← linkage_of text
+  signature ← signature_at convention d
+  Some (declare_function name linkage signature)
+
+-- a declaration without a name
+unfoldable pub anonymous_of : CallConv → Data → Option Call
+anonymous_of convention d = with_keys (codes "op" ∷ codes "signature" ∷ []) d do
+  signature ← signature_at convention d
+  Some (declare_anonymous_function signature)
+
+unfoldable pub define_of : Data → Option Call
+define_of d = with_keys (codes "op" ∷ codes "id" ∷ codes "bytes" ∷ []) d do
+  id ← u32_at (codes "id") d
+  bytes ← hex_at (codes "bytes") d
+  Some (define_function id 1 bytes [])
+
+-- a command by its `op`
+unfoldable pub command_of : CallConv → Data → Option Call
+command_of convention d = do
+  op ← text_at (codes "op") d
+  if bytes_eq op (codes "declare_function") then declare_of convention d
+      else if bytes_eq op (codes "declare_anonymous_function") then anonymous_of convention d
+      else if bytes_eq op (codes "define_function") then define_of d
+      else None
+
+-- the commands of a list
+abbrev pub commands_of : CallConv → Items → Option (List Call)
+commands_of convention ds = each_of (command_of convention) ds
+
+-- -- parts
+
+-- the target of x86_64 ELF files, without flags
+abbrev pub elf_target : Target
+elf_target = record { triple = record { architecture = X86_64; binary_format = Elf; system = systems.Unknown; version = None; environment = environments.Unknown }; flags = [] }
+
+-- a part without options, with the default library texts
+abbrev pub part_with : List ℕ → List Call → BuildPart
+part_with name calls =
+    commands (record {
+      settings = record { file_name = name; library_names = usual_texts; function_sections = false; data_sections = false };
+      target = elf_target;
+      calls = calls;
+    })
+
+unfoldable pub part_of : Data → Option BuildPart
+part_of d = with_keys (codes "name" ∷ codes "arch" ∷ codes "format" ∷ codes "commands" ∷ []) d do
+  name ← text_at (codes "name") d
+  arch ← text_at (codes "arch") d
+  format ← text_at (codes "format") d
+  items ← items_at (codes "commands") d
+  calls ← commands_of (default_call_conv elf_target.triple) items
+  if bytes_eq arch (codes "x86_64") && bytes_eq format (codes "elf") then Some (part_with name calls) else None
+
+abbrev pub one_part : Items → Option (List BuildPart)
+one_part no_items = None
+one_part (item d no_items) = part_of d >>= λ part. Some (part ∷ [])
+one_part (item d (item e ds)) = None
+
+-- a list of one part
+abbrev pub parts_of : Data → Option (List BuildPart)
+parts_of d = as_array d >>= λ ds. one_part ds
+
+-- -- the bytes of an input
+
+-- the bytes are a text, and the text is this JSON value within 127 levels
+pub record HasJson (bytes : List ℕ) (d : Data) : Type 0 where
+  pub utf8 : IsUtf8 bytes
+  pub value : read bytes ≡ Some d
+
+-- the input has no JSON reading
+abbrev pub HasNoJson : List ℕ → Type 0
+HasNoJson input = (d : Data) → HasJson input d → ⊥
+
+-- the input has a reading, and the value isn't of the form built so far
+abbrev pub HasOtherForm : List ℕ → Type 0
+HasOtherForm input = (d : Data) × HasJson input d × (parts_of d ≡ None)
+
+-- the input stands for these parts
+abbrev pub StandsFor : List ℕ → List BuildPart → Type 0
+StandsFor input parts = (d : Data) × HasJson input d × (parts_of d ≡ Some parts)
+
+-- the parts have fewer commands than there are identifiers
+abbrev pub HasFewCalls : List BuildPart → Type 0
+HasFewCalls [] = Unit {0}
+HasFewCalls (commands part ∷ parts) = (length part.calls < 4294967295) × HasFewCalls parts

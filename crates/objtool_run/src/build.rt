@@ -1,0 +1,60 @@
+//! The command `build`: from the bytes of an input to the line of the output.
+
+ghost use Rattle.std.specs.Prelude.{◌≡◌, string_bytes, IfOk, IfErr};
+ghost use Rattle.image_build.specs.Texts.{build_text};
+ghost use Rattle.objtool_run.specs.Fault.{line};
+ghost use Rattle.objtool_run.specs.Run.{IsAnswer, Explains, IsOfInput, TellsRefusal, line_of};
+
+use crate::fault::Fault;
+use crate::script::part::read_parts;
+use image_build::{BuildCause, BuildError, build_image};
+use std::alloc::{AllocError, Global};
+
+/// The output for some bytes: their lower-case hexadecimal and a newline.
+fn line_of(alloc: Global, bytes: &[u8]) -> Result<Vec<u8>, AllocError>
+    ensures { IfOk result (λ text. text.items ≡ line_of bytes.now) }
+{
+    let mut text = hex::encode(alloc, bytes)?.into_bytes();
+    text.push(b'\n')?;
+    Ok(text)
+}
+
+/// The fault text of a refused build.
+fn refusal_text(alloc: Global, error: &BuildError) -> Result<String, AllocError>
+    ensures { IfOk result (λ text. string_bytes text ≡ line (build_text error.now)) }
+{
+    format!(in alloc; "{error}\n")
+}
+
+/// The fault of a refused build.
+fn refused(alloc: Global, error: &BuildError) -> Fault
+    ensures { TellsRefusal error.now result }
+{
+    if matches!(error.cause, BuildCause::OutOfMemory) {
+        return Fault::OutOfMemory;
+    }
+    match refusal_text(alloc, error) {
+        Ok(text) => Fault::Refused(text),
+        Err(_) => Fault::OutOfMemory,
+    }
+}
+
+/// The line of the file that an input's parts build.
+pub fn answer(alloc: Global, input: &[u8]) -> Result<Vec<u8>, Fault>
+    ensures ok { IfOk result (λ text. IsAnswer input.now text.items) }
+    ensures explained { IfErr result (λ fault. Explains input.now fault) }
+    ensures of_input { IfErr result (λ fault. IsOfInput fault) }
+{
+    let parts = match read_parts(alloc, input) {
+        Ok(parts) => parts,
+        Err(fault) => return Err(fault),
+    };
+    let bytes = match build_image(alloc, &parts) {
+        Ok(bytes) => bytes,
+        Err(error) => return Err(refused(alloc, &error)),
+    };
+    match line_of(alloc, &bytes) {
+        Ok(text) => Ok(text),
+        Err(_) => Err(Fault::OutOfMemory),
+    }
+}

@@ -1,0 +1,22 @@
+//! All that the program does, over any host: the words of the command line, the input, the form of
+//! its JSON, the library's call, the output and the fault text.
+//!
+//! It stands on every library of the repository. The program calls [`run`] and nothing else.
+#![tactic(auto)]
+
+mod build;
+mod fault;
+mod input;
+mod output;
+mod program;
+mod script;
+mod words;
+
+pub use build::answer;
+pub use fault::Fault;
+pub use input::{INPUT_LIMIT, InputError, read_input};
+pub use output::{write_fault_text, write_output};
+pub use program::run;
+pub use script::command::commands_of;
+pub use script::form::FormError;
+pub use words::is_build;

@@ -1,0 +1,5 @@
+//! Tests that cross crates: the whole program over a host in memory.
+#![tactic(auto)]
+
+#[cfg(test)]
+mod build_tests;
