@@ -98,3 +98,21 @@ pub lays_one : (old padded new bytes : List ℕ) (align : ℕ) → padded ≡ ol
 unfolding laid_out
 lays_one old padded new bytes align p n =
     record { bytes = n ∙ ap (λ m. m ++ bytes) p ∙ append_assoc old (zeros (next_multiple_of (length old) align - length old)) bytes ∙ ap (λ rest. old ++ (zeros (next_multiple_of (length old) align - length old) ++ rest)) (sym (append-nil bytes)) }
+
+pub next_multiple_of_one : (n : ℕ) → next_multiple_of n 1 ≡ n
+next_multiple_of_one n = omega arith
+
+-- bytes at any place
+pub lays_bytes : (old new bytes : List ℕ) → new ≡ old ++ bytes → LaysOut old new (record { align = 1; bytes = bytes } ∷ [])
+lays_bytes old new bytes e =
+    let none : next_multiple_of (length old) 1 - length old ≡ 0 = omega (arith, next_multiple_of_one (length old)) in
+    lays_one old old new bytes 1 (rw none (sym (append-nil old))) e
+
+-- padding and one more piece of contents, in a loop
+pub laid_next : (first out padded new bytes : List ℕ) (align : ℕ) (cs ds : List Aligned) → ds ≡ cs ++ record { align = align; bytes = bytes } ∷ [] → LaysOut first out cs
+    → padded ≡ out ++ replicate (next_multiple_of (length out) align - length out) 0 → new ≡ padded ++ bytes → LaysOut first new ds
+laid_next first out padded new bytes align cs ds e f p w =
+    rw e (lays_more first out new cs (record { align = align; bytes = bytes } ∷ []) f (lays_one out padded new bytes align p w))
+
+pub lays_as : (old new : List ℕ) (cs ds : List Aligned) → cs ≡ ds → LaysOut old new cs → LaysOut old new ds
+lays_as old new cs ds e f = rw (← e) f

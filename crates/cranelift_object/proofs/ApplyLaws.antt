@@ -1,5 +1,5 @@
 -- Calls made one after the other.
-use Rattle.std.proofs.Common.{◌≡◌, ◌≢◌, ℕ, zero, suc, ◌+◌, ◌<◌, ◌≤◌, ◌++◌, ◌∷◌, List, [], Bool, true, false, ◌||◌, cond, length, map, drop, take, get_or, Option, Some, None, refl, ap, sym, ◌∙◌, subst, arith, inl, inr, length-append, append_assoc}
+use Rattle.std.proofs.Common.{◌≡◌, ℕ, ◌+◌, ◌<◌, ◌≤◌, ◌++◌, ◌∷◌, List, [], Bool, true, false, cond, length, map, drop, take, get_or, Option, Some, None, refl, ap, sym, ◌∙◌, subst, arith, length-append, append_assoc}
 use Rattle.std.specs.Prelude.{count_by, IfSome, option_map}
 use Rattle.std.specs.Option.{option_or}
 use Rattle.std.specs.List.{All}
@@ -10,7 +10,6 @@ use Rattle.std.proofs.lemmas.List.Sums.{sum_by-cons}
 use Rattle.cranelift_module.specs.declared.error.ModuleError.{ModuleError}
 use Rattle.cranelift_module.specs.declared.linkage.Linkage.TheVariants.{Local}
 use Rattle.cranelift_module.specs.Call.{Call, declare_function, declare_anonymous_function, define_function, declare_data, declare_anonymous_data, define_data}
-use Rattle.cranelift_module.specs.Rows.{FunctionRow}
 use Rattle.cranelift_module.specs.LinkState.{LinkState, step, steps, with_first}
 use Rattle.cranelift_module.specs.Refusal.{Refusal, Tells, refusal, refusal_told}
 use Rattle.cranelift_object.specs.declared.command.Command.{Command}

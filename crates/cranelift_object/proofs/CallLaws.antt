@@ -1,6 +1,6 @@
 -- Calls of a module, accepted and refused.
-use Rattle.std.proofs.Common.{◌≡◌, ℕ, ◌+◌, ◌<◌, ◌≤◌, ◌++◌, ◌∷◌, List, [], Bool, true, false, cond, length, map, Option, Some, None, refl, ap, sym, ◌∙◌, subst, arith}
-use Rattle.std.specs.Prelude.{slice_get, IfSome, Result, Ok, Err}
+use Rattle.std.proofs.Common.{◌≡◌, ℕ, ◌<◌, ◌++◌, ◌∷◌, List, [], Bool, true, false, length, Option, Some, None, refl, ◌∙◌}
+use Rattle.std.specs.Prelude.{slice_get, IfSome, Ok, Err}
 use Rattle.std.specs.Option.{option_or}
 use Rattle.std.proofs.lemmas.Option.{slice_get_within}
 use Rattle.ir_core.specs.Signature.{SignatureData}
@@ -15,9 +15,7 @@ use Rattle.cranelift_module.specs.Definitions.{Definition}
 use Rattle.cranelift_object.specs.Opened.{function_definition}
 use Rattle.ir_core.specs.Target.{Target}
 use Rattle.cranelift_module.specs.LinkState.{LinkState, step}
-use Rattle.cranelift_module.specs.Refusal.{Refusal, Tells, refusal, refusal_told, zero_byte, function_clash, undefinable, is_defined, refuse_if, first_cause, duplicate_definition, invalid_import_definition, function_name, is_bad_align, backend}
-use Rattle.cranelift_module.specs.Linkage.{is_definable}
-use Rattle.cranelift_module.specs.declared.error.BackendCause.TheVariants.{BadAlign}
+use Rattle.cranelift_module.specs.Refusal.{Refusal, Tells, refusal, refusal_told, zero_byte, function_clash, undefinable, is_defined, refuse_if, duplicate_definition, function_name}
 use Rattle.cranelift_module.specs.IsCall.{IsCall}
 
 -- -- the first of two causes

@@ -1,22 +1,21 @@
 -- The numbers of sections, and the places of definitions in them.
-use Rattle.std.proofs.Common.{◌≡◌, ℕ, zero, suc, ◌+◌, ◌-◌, ◌==◌, ◌<◌, ◌≤◌, ◌++◌, ◌∷◌, List, [], Bool, true, false, not, ◌||◌, cond, length, map, Option, Some, None, refl, ap, sym, ◌∙◌, subst, arith, length-append, append_assoc, eq-eqb, inl, inr, ◌≢◌, filter}
+use Rattle.std.proofs.Common.{◌≡◌, ℕ, ◌+◌, ◌==◌, ◌<◌, ◌≤◌, ◌++◌, ◌∷◌, List, [], Bool, true, false, not, ◌||◌, cond, length, map, Option, Some, None, refl, ap, sym, ◌∙◌, arith, length-append, inl, inr, filter}
 use Rattle.std.proofs.lemmas.List.{append-nil, map-append}
 use Rattle.std.proofs.lemmas.Bool.Decides.{eqb_tells}
 use Rattle.std.proofs.lemmas.Bool.{cases_Bool}
 use Rattle.std.proofs.lemmas.List.Folds.{list_any-append}
-use Rattle.std.proofs.lemmas.List.Elements.{filter-append, All-head, All-tail, All-weaker, All-append, All-nil, All-cons, All-push}
-use Rattle.std.specs.Prelude.{slice_get, option_map}
-use Rattle.std.specs.List.{list_any, position_or_len, position_from, All}
-use Rattle.ir_core.specs.Moments.{Moment, moments, once_each}
-use Rattle.ir_core.proofs.MomentLaws.{map_moments-end, moments-end, once_each-end, by_end}
+use Rattle.std.proofs.lemmas.List.Elements.{All-weaker, All-nil, All-push}
+use Rattle.std.specs.List.{list_any, position_or_len, All}
+use Rattle.ir_core.specs.Moments.{Moment, moments}
+use Rattle.ir_core.proofs.MomentLaws.{map_moments-end, once_each-end, by_end}
 use Rattle.object_core.specs.declared.kinds.StandardSection.{StandardSection}
-use Rattle.object_core.specs.Standard.{standard_place, is_same_shared, is_zero_fill}
-use Rattle.object_core.specs.Places.{Extent, place_behind, end_of}
+use Rattle.object_core.specs.Standard.{standard_place, is_same_shared}
+use Rattle.object_core.specs.Places.{Extent}
 use Rattle.cranelift_module.specs.Definitions.{Definition}
 use Rattle.cranelift_module.specs.LinkState.{LinkState}
 use Rattle.cranelift_object.specs.Settings.{Settings}
 use Rattle.cranelift_object.specs.SectionClass.{Class, section_class}
-use Rattle.cranelift_object.specs.Placing.{Placed, share, sections_used, section_number, number_of, standing_in, placed_at, align_of, extent_of}
+use Rattle.cranelift_object.specs.Placing.{Placed, share, sections_used, section_number, number_of, standing_in, placed_at, extent_of}
 use Rattle.cranelift_object.specs.Partial.{placed_of}
 use Rattle.cranelift_object.specs.Linked.{members}
 

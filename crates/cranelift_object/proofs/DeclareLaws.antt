@@ -1,18 +1,16 @@
 -- What a declaration leaves, by the number that it answers.
-use Rattle.std.proofs.Common.{◌≡◌, ◌≢◌, ℕ, zero, suc, ◌+◌, ◌<◌, ◌≤◌, ◌++◌, ◌∷◌, List, [], Bool, true, false, ◌||◌, cond, length, map, Option, Some, None, refl, ap, sym, ◌∙◌, subst, arith, inl, inr}
+use Rattle.std.proofs.Common.{◌≡◌, ◌≢◌, ℕ, ◌+◌, ◌<◌, ◌++◌, ◌∷◌, List, [], Bool, true, false, ◌||◌, cond, length, Some, None, refl, ap, sym, ◌∙◌, arith, inl, inr}
 use Rattle.std.proofs.lemmas.Bool.{cases_Bool}
 use Rattle.std.proofs.lemmas.Bool.Decides.{eqb_tells}
 use Rattle.std.proofs.lemmas.List.Elements.{All-cons, All-head, All-tail, All-nil}
 use Rattle.std.proofs.lemmas.Slice.Eq.{bytes_eq-Decides}
 use Rattle.std.specs.List.{All, list_any, position_from}
 use Rattle.ir_core.specs.Signature.{SignatureData}
-use Rattle.ir_core.specs.Target.{Target}
 use Rattle.cranelift_module.specs.declared.linkage.Linkage.{Linkage}
 use Rattle.cranelift_module.specs.declared.identifiers.FuncOrDataId.{FuncOrDataId}
 use Rattle.cranelift_module.specs.declared.identifiers.FuncOrDataId.TheVariants.{Func}
-use Rattle.cranelift_module.specs.Call.{Call, declare_function}
-use Rattle.cranelift_module.specs.Rows.{FunctionRow, DataRow}
-use Rattle.cranelift_module.specs.Definitions.{Definition}
+use Rattle.cranelift_module.specs.Call.{declare_function}
+use Rattle.cranelift_module.specs.Rows.{FunctionRow}
 use Rattle.cranelift_module.specs.Declarations.{DeclarationLists}
 use Rattle.cranelift_module.specs.LinkState.{LinkState, step, with_first, is_function_named, raised_function}
 use Rattle.cranelift_module.specs.Refusal.{zero_byte}

@@ -1,18 +1,18 @@
 -- What one definition of a module adds to its object.
-use Rattle.std.proofs.Common.{◌≡◌, ◌≢◌, ℕ, zero, suc, ◌+◌, ◌*◌, ◌==◌, ◌||◌, ◌<◌, ◌≤◌, ◌^◌, ◌++◌, ◌∷◌, length-take, List, [], Bool, true, false, cond, max, length, map, take, get_or, Option, Some, None, refl, ap, sym, ◌∙◌, subst, arith, inl, inr, eq-eqb, length-append, append_assoc}
+use Rattle.std.proofs.Common.{◌≡◌, ◌≢◌, ℕ, zero, suc, ◌+◌, ◌||◌, ◌<◌, ◌≤◌, ◌^◌, ◌++◌, ◌∷◌, length-take, List, [], Bool, true, false, cond, max, length, map, take, get_or, Option, Some, None, refl, ap, sym, ◌∙◌, arith, inl, inr, eq-eqb, append_assoc}
 use Rattle.std.proofs.lemmas.List.{append-nil, map-append, take_more, take_all, length-map}
-use Rattle.std.proofs.lemmas.List.Elements.{All-nil, All-push, All-take, All-map, All-append, All-weaker, All-get_or, All-head, All-tail, All-cons}
+use Rattle.std.proofs.lemmas.List.Elements.{All-nil, All-push, All-take, All-map, All-weaker, All-head, All-tail, All-cons}
 use Rattle.std.proofs.lemmas.List.Sums.{sum_by-le}
-use Rattle.std.proofs.lemmas.List.FromFn.{length-enumerate_from, map-range_with_len_more, length-map-range_with_len, get_or-map-range_with_len}
+use Rattle.std.proofs.lemmas.List.FromFn.{map-range_with_len_more, length-map-range_with_len, get_or-map-range_with_len}
 use Rattle.std.proofs.lemmas.Option.{slice_get_within, get_or_from_slice_get, slice_get-get_or, slice_get-map}
 use Rattle.std.proofs.lemmas.Bool.Decides.{eqb_tells}
 use Rattle.std.proofs.lemmas.Bool.{cases_Bool}
-use Rattle.std.specs.Prelude.{slice_get, option_map, find, sum_by}
+use Rattle.std.specs.Prelude.{slice_get, option_map, find}
 use Rattle.std.specs.List.{All, list_any, range_with_len, position_or_len, enumerate_from}
 use Rattle.std.specs.Int.{is_power_of_two}
 use Rattle.std.proofs.Math.Nat.{mul-le-mul_right}
 use lib.Count.{ones}
-use Rattle.ir_core.specs.Moments.{Moment, moments, moments_after}
+use Rattle.ir_core.specs.Moments.{moments, moments_after}
 use Rattle.ir_core.proofs.MomentLaws.{by_end}
 use Rattle.ir_core.specs.Target.{symbol_alignment}
 use Rattle.ir_core.specs.declared.target.Architecture.{Architecture}
@@ -26,7 +26,7 @@ use Rattle.cranelift_module.specs.declared.identifiers.FuncOrDataId.{FuncOrDataI
 use Rattle.cranelift_module.specs.declared.identifiers.FuncOrDataId.TheVariants.{Func}
 use Rattle.cranelift_module.specs.Call.{bytes}
 use Rattle.cranelift_module.specs.Rows.{FunctionRow, DataRow}
-use Rattle.cranelift_module.specs.Definitions.{Definition, contents_of}
+use Rattle.cranelift_module.specs.Definitions.{Definition}
 use Rattle.cranelift_module.specs.LinkState.{LinkState}
 use Rattle.cranelift_module.specs.Refusal.{is_same_identifier, is_defined}
 use Rattle.cranelift_object.specs.Settings.{Settings}

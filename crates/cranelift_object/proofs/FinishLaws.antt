@@ -1,6 +1,6 @@
 -- Why a module can't be finished, function by function.
-use Rattle.std.proofs.Common.{◌≡◌, ℕ, zero, suc, ◌+◌, ◌<◌, ◌≤◌, ◌++◌, ◌∷◌, List, [], Bool, true, false, not, ◌&&◌, cond, length, map, drop, get_or, Option, Some, None, refl, ap, sym, ◌∙◌, subst, arith, add-one, drop-cons}
-use Rattle.std.specs.Prelude.{slice_get, option_and_then, IfSome, flat_map}
+use Rattle.std.proofs.Common.{◌≡◌, ℕ, ◌+◌, ◌<◌, ◌≤◌, ◌++◌, ◌∷◌, List, [], Bool, length, map, drop, get_or, Option, Some, None, refl, ap, sym, ◌∙◌}
+use Rattle.std.specs.Prelude.{slice_get, option_and_then, flat_map}
 use Rattle.std.specs.Option.{option_or}
 use Rattle.std.specs.List.{All, enumerate_from}
 use Rattle.std.proofs.lemmas.List.{append-nil, drop_all}
@@ -10,11 +10,10 @@ use Rattle.cranelift_object.proofs.FirstCause.{drop_step}
 use Rattle.cranelift_module.specs.declared.reloc.ModuleReloc.{ModuleReloc}
 use Rattle.ir_core.specs.declared.types.CallConv.TheVariants.{SystemV}
 use Rattle.cranelift_module.specs.declared.linkage.Linkage.TheVariants.{Import}
-use Rattle.cranelift_module.specs.declared.error.ModuleError.{ModuleError}
 use Rattle.cranelift_module.specs.Rows.{FunctionRow}
 use Rattle.cranelift_module.specs.Definitions.{Definition}
 use Rattle.cranelift_module.specs.LinkState.{LinkState}
-use Rattle.cranelift_module.specs.Refusal.{Refusal, Tells, first_cause, refusal_told}
+use Rattle.cranelift_module.specs.Refusal.{first_cause}
 use Rattle.cranelift_object.specs.Opened.{OpenModule}
 use Rattle.cranelift_object.specs.Kept.{IsModule, IsBody}
 use Rattle.cranelift_object.specs.EndCause.{end_cause, missing_function, missing_data, function_missing, target_cause}

@@ -1,14 +1,12 @@
 -- The object of a module can be written.
-use Rattle.std.proofs.Common.{◌≡◌, ◌≢◌, ℕ, zero, suc, ◌+◌, ◌-◌, ◌%◌, ◌/◌, ◌==◌, ◌||◌, ◌<◌, ◌≤◌, ◌++◌, ◌∷◌, List, [], Bool, true, false, cond, max, length, map, take, Option, Some, None, refl, ap, sym, ◌∙◌, subst, arith, inl, inr, length-append, codes}
-use Rattle.std.proofs.lemmas.Bool.{cases_Bool}
+use Rattle.std.proofs.Common.{◌≡◌, ℕ, zero, suc, ◌+◌, ◌%◌, ◌/◌, ◌==◌, ◌||◌, ◌<◌, ◌≤◌, ◌++◌, ◌∷◌, List, [], Bool, true, false, cond, length, map, Option, Some, None, refl, ap, sym, ◌∙◌, subst, arith, inl, inr, codes}
 use Rattle.std.proofs.lemmas.Bool.Decides.{eqb_tells}
 use Rattle.std.proofs.lemmas.List.{append-nil, map-append, length-map}
 use Rattle.std.proofs.lemmas.List.FromFn.{length-map-range_with_len}
-use Rattle.std.proofs.lemmas.List.Folds.{list_any-append}
 use Rattle.std.proofs.lemmas.List.Elements.{All-nil, All-cons, All-push, All-weaker, All-map, All-filter, All-head, All-tail, filter-append}
 use Rattle.std.proofs.lemmas.List.Sums.{sum_by_push}
 use Rattle.std.proofs.lemmas.Option.{slice_get-map, slice_get_within}
-use Rattle.std.specs.Prelude.{slice_get, option_map, unwrap_or, sum_by, flat_map, nat_lt, find}
+use Rattle.std.specs.Prelude.{slice_get, option_map, unwrap_or, sum_by, nat_lt, find}
 use Rattle.std.specs.List.{All, list_any, position_from, filter}
 use Rattle.std.specs.Fmt.{digits, digits_onto, digit_glyph}
 use Rattle.std.specs.Int.{next_multiple_of}
@@ -44,8 +42,8 @@ use Rattle.cranelift_object.specs.Partial.{sections_from}
 use Rattle.cranelift_object.proofs.ObjectLaws.{All-slice_get, partial_whole, IsPlain}
 use Rattle.cranelift_object.proofs.DefineLaws.{created_at, row_at, used_all, body_plain}
 use Rattle.cranelift_object.proofs.OpenLaws.{sections_length}
-use Rattle.object_core.specs.WellFormed.{IsFormedElf, IsFormedSymbol, IsFormedRelocation, PlaceFits, has_zero_byte}
-use Rattle.cranelift_object.specs.Kept.{IsModule, IsBody, IsName, IsBegun}
+use Rattle.object_core.specs.WellFormed.{IsFormedElf, IsFormedSymbol, IsFormedRelocation, has_zero_byte}
+use Rattle.cranelift_object.specs.Kept.{IsModule, IsBody, IsName}
 
 -- -- names
 

@@ -1,12 +1,11 @@
 -- What stays true of a module.
-use Rattle.std.proofs.Common.{◌≡◌, ◌≢◌, ℕ, zero, suc, ◌+◌, ◌-◌, ◌==◌, ◌||◌, ◌<◌, ◌≤◌, ◌^◌, ◌++◌, ◌∷◌, List, [], Bool, true, false, cond, length, map, get_or, set, Option, Some, None, refl, ap, sym, ◌∙◌, subst, arith, length-append, length-set, eq-eqb, inl, inr, get_or-set_same, get_or-set_other}
+use Rattle.std.proofs.Common.{◌≡◌, ◌≢◌, ℕ, zero, suc, ◌+◌, ◌||◌, ◌<◌, ◌≤◌, ◌^◌, ◌++◌, ◌∷◌, List, [], Bool, true, false, length, get_or, set, refl, ap, sym, ◌∙◌, arith, length-append, length-set, inl, inr, get_or-set_same, get_or-set_other}
 use Rattle.std.proofs.lemmas.Bool.Decides.{eqb_tells}
-use Rattle.std.proofs.lemmas.List.{append-nil, map-append}
 use Rattle.std.proofs.lemmas.List.Elements.{All-nil, All-push, All-weaker}
 use Rattle.std.proofs.lemmas.List.Folds.{list_any-append}
 use Rattle.std.proofs.lemmas.List.FromFn.{map-range_with_len_more}
-use Rattle.std.specs.List.{All, list_any, range_with_len}
-use Rattle.ir_core.specs.Moments.{Moment, moments}
+use Rattle.std.specs.List.{All, list_any}
+use Rattle.ir_core.specs.Moments.{moments}
 use Rattle.ir_core.specs.Target.{Target}
 use Rattle.ir_core.specs.declared.target.BinaryFormat.{BinaryFormat}
 use Rattle.ir_core.specs.declared.target.BinaryFormat.TheVariants.{Elf, Coff, Macho, Wasm, Unknown}
@@ -20,7 +19,7 @@ use Rattle.cranelift_module.specs.Declarations.{DeclarationLists}
 use Rattle.cranelift_module.specs.LinkState.{LinkState, state_of}
 use Rattle.cranelift_module.specs.Refusal.{is_same_identifier}
 use Rattle.cranelift_object.specs.Settings.{Settings}
-use Rattle.cranelift_object.specs.Opened.{BuilderData, OpenModule, function_definition}
+use Rattle.cranelift_object.specs.Opened.{OpenModule, function_definition}
 use Rattle.cranelift_object.specs.Kept.{IsBegun, IsBody, IsFirst, IsName, IsModule}
 use Rattle.cranelift_object.specs.Part.{is_supported}
 

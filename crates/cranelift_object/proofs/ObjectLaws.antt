@@ -1,33 +1,30 @@
 -- The object of a state, one definition after the other.
-use Rattle.std.proofs.Common.{◌≡◌, ℕ, zero, suc, ◌+◌, ◌-◌, ◌==◌, ◌<◌, ◌≤◌, ◌++◌, ◌∷◌, List, [], Bool, true, false, cond, length, map, Option, Some, None, refl, ap, sym, ◌∙◌, subst, arith, eq-eqb, ◌≢◌, inl, inr}
-use Rattle.std.proofs.lemmas.List.{append-nil, map-append}
+use Rattle.std.proofs.Common.{◌≡◌, ℕ, zero, suc, ◌+◌, ◌<◌, ◌++◌, ◌∷◌, List, [], false, length, map, Option, Some, None, refl, ap, sym, ◌∙◌, subst, arith, ◌≢◌}
+use Rattle.std.proofs.lemmas.List.{map-append}
 use Rattle.std.proofs.lemmas.List.Sums.{sum_by_push}
-use Rattle.std.proofs.lemmas.Bool.{cases_Bool}
 use Rattle.std.proofs.lemmas.Option.{get_or_from_slice_get, slice_get_within}
 use Rattle.std.proofs.lemmas.List.Elements.{All-get_or}
 use Rattle.std.specs.Prelude.{slice_get, option_map, unwrap_or, sum_by}
-use Rattle.std.specs.List.{All, list_any, position_or_len, enumerate_from}
+use Rattle.std.specs.List.{All}
 use Rattle.std.specs.Int.{next_multiple_of}
-use Rattle.ir_core.specs.Moments.{Moment, moments}
 use Rattle.object_core.specs.declared.symbol.Symbol.{Symbol}
-use Rattle.object_core.specs.declared.kinds.SymbolSection.TheVariants.{Undefined}
 use Rattle.object_core.specs.Object.{SectionData, ObjectData}
-use Rattle.object_core.specs.Places.{place_behind, end_of}
+use Rattle.object_core.specs.Places.{end_of}
 use Rattle.object_core.specs.Standard.{is_zero_fill}
-use Rattle.object_core.specs.Appending.{changed_at, with_contents, with_symbol_data, next_offset, offset_in, defined_symbol, file_symbol, IsUndefined, HasBytes}
+use Rattle.object_core.specs.Appending.{changed_at, with_symbol_data, next_offset, offset_in, defined_symbol, file_symbol}
 use Rattle.cranelift_module.specs.declared.identifiers.FuncOrDataId.{FuncOrDataId}
-use Rattle.cranelift_module.specs.declared.identifiers.FuncOrDataId.TheVariants.{Func, Data}
+use Rattle.cranelift_module.specs.declared.identifiers.FuncOrDataId.TheVariants.{Func}
 use Rattle.cranelift_module.specs.Rows.{FunctionRow}
 use Rattle.cranelift_module.specs.Definitions.{Definition, contents_of, size_of}
 use Rattle.cranelift_module.specs.LinkState.{LinkState}
 use Rattle.cranelift_module.specs.Refusal.{is_same_identifier}
 use Rattle.cranelift_object.specs.Settings.{Settings}
 use Rattle.cranelift_object.specs.SectionClass.{Class, section_class}
-use Rattle.cranelift_object.specs.Placing.{Placed, placed, placed_at, sections_used, section_number, number_of, standing_in, align_of, room_of, extent_of}
-use Rattle.cranelift_object.specs.Linked.{defined_at, identifier_symbol, symbols_of, sections_of, section_with, members, file_flags, object_of}
-use Rattle.cranelift_object.specs.Partial.{placed_of, sections_from, partial_with, partial, opened, number_behind}
-use Rattle.cranelift_object.proofs.SectionLaws.{sections_changed, sections_opened, contents_length}
-use Rattle.cranelift_object.proofs.ClassLaws.{placed_of-end, placed_below, placed_definitions, members_extents, number_below, used-end}
+use Rattle.cranelift_object.specs.Placing.{Placed, placed, placed_at, sections_used, align_of, room_of}
+use Rattle.cranelift_object.specs.Linked.{defined_at, identifier_symbol, sections_of, section_with, members, object_of}
+use Rattle.cranelift_object.specs.Partial.{placed_of, sections_from, partial, opened, number_behind}
+use Rattle.cranelift_object.proofs.SectionLaws.{sections_changed, contents_length}
+use Rattle.cranelift_object.proofs.ClassLaws.{placed_of-end, placed_definitions, members_extents, number_below}
 use Rattle.cranelift_object.proofs.SymbolLaws.{symbols_plain, identifiers_changed}
 
 -- a definition without relocations

@@ -1,16 +1,15 @@
 -- The section of one more function: one of its own, or the standard one.
-use Rattle.std.proofs.Common.{◌≡◌, ◌≢◌, ℕ, zero, suc, ◌+◌, ◌==◌, ◌||◌, ◌<◌, ◌≤◌, ◌++◌, ◌∷◌, List, [], Bool, true, false, not, cond, length, map, Option, Some, None, refl, ap, sym, ◌∙◌, subst, arith, inl, inr, eq-eqb, length-append}
-use Rattle.std.proofs.lemmas.List.{append-nil, length-map}
-use Rattle.std.proofs.lemmas.List.FromFn.{length-enumerate_from}
+use Rattle.std.proofs.Common.{◌≡◌, ℕ, ◌+◌, ◌||◌, ◌<◌, ◌++◌, ◌∷◌, List, [], Bool, true, false, not, cond, length, map, Option, Some, None, refl, ap, sym, ◌∙◌, arith, inl, inr}
+use Rattle.std.proofs.lemmas.List.{append-nil}
 use Rattle.std.proofs.lemmas.Bool.{cases_Bool}
 use Rattle.std.proofs.lemmas.List.Elements.{All-weaker}
-use Rattle.std.specs.Prelude.{slice_get, option_map, unwrap_or}
-use Rattle.std.specs.List.{All, list_any, position_from, position_or_len, enumerate_from}
+use Rattle.std.specs.Prelude.{unwrap_or}
+use Rattle.std.specs.List.{list_any, position_from, position_or_len}
 use Rattle.object_core.specs.declared.kinds.StandardSection.{StandardSection}
 use Rattle.object_core.specs.declared.kinds.StandardSection.TheVariants.{Text}
-use Rattle.object_core.specs.Object.{SectionData, ObjectData}
+use Rattle.object_core.specs.Object.{SectionData}
 use Rattle.object_core.specs.Places.{end_of, joined}
-use Rattle.object_core.specs.Standard.{standard_place, is_same_shared, empty_standard, empty_subsection}
+use Rattle.object_core.specs.Standard.{is_same_shared, empty_standard, empty_subsection}
 use Rattle.object_core.specs.Appending.{standard_at, with_standard, with_standard_section, with_subsection}
 use Rattle.cranelift_module.specs.Definitions.{Definition}
 use Rattle.cranelift_module.specs.LinkState.{LinkState}
@@ -19,7 +18,7 @@ use Rattle.cranelift_object.specs.Opened.{function_definition}
 use Rattle.cranelift_object.specs.SectionClass.{Class, section_class, standard_class}
 use Rattle.cranelift_object.specs.Placing.{Placed, share, sections_used, section_number}
 use Rattle.cranelift_object.specs.Linked.{section_with}
-use Rattle.cranelift_object.specs.Partial.{placed_of, sections_from, partial_with, partial, opened, number_behind}
+use Rattle.cranelift_object.specs.Partial.{placed_of, sections_from, partial, opened, number_behind}
 use Rattle.cranelift_object.proofs.SectionLaws.{sections_opened}
 use Rattle.cranelift_object.proofs.ClassLaws.{placed_below, used-end, any_used, number_new}
 

@@ -1,26 +1,23 @@
 -- One more definition in the sections of a state.
-use Rattle.std.proofs.Common.{◌≡◌, ℕ, zero, suc, ◌+◌, ◌-◌, ◌==◌, ◌<◌, ◌≤◌, ◌++◌, ◌∷◌, List, [], Bool, true, false, cond, max, length, replicate, map, Option, Some, None, refl, ap, sym, ◌∙◌, subst, arith, length-append, append_assoc, eq-eqb, inl, inr, ◌≢◌, filter}
+use Rattle.std.proofs.Common.{◌≡◌, ℕ, zero, suc, ◌+◌, ◌-◌, ◌==◌, ◌<◌, ◌++◌, ◌∷◌, List, [], Bool, true, false, cond, max, length, replicate, map, Some, refl, ap, ◌∙◌, arith, length-append, eq-eqb, inl, inr, ◌≢◌}
 use Rattle.std.proofs.lemmas.List.{append-nil, length-replicate, map-append}
 use Rattle.std.proofs.lemmas.Bool.Decides.{eqb_tells}
 use Rattle.std.proofs.lemmas.List.Sums.{fold_push}
 use Rattle.std.proofs.lemmas.List.Concat.{flat_map-append}
 use Rattle.std.proofs.lemmas.List.Elements.{filter-append, All-head, All-tail, All-weaker}
-use Rattle.std.specs.Prelude.{flat_map, fold, slice_get}
-use Rattle.std.specs.List.{enumerate_from, All}
+use Rattle.std.specs.Prelude.{slice_get}
+use Rattle.std.specs.List.{All}
 use Rattle.std.specs.Int.{next_multiple_of}
-use Rattle.ir_core.specs.Moments.{Moment, moments}
-use Rattle.ir_core.proofs.MomentLaws.{map_moments-end, by_end}
+use Rattle.ir_core.proofs.MomentLaws.{by_end}
 use Rattle.object_core.specs.Places.{Extent, Piece, end_of, greatest_align, joined}
-use Rattle.object_core.specs.Object.{SectionData}
 use Rattle.object_core.specs.Standard.{is_zero_fill}
-use Rattle.object_core.specs.Appending.{changed_at, with_contents, offset_in}
-use Rattle.cranelift_module.specs.declared.reloc.ModuleReloc.{ModuleReloc}
+use Rattle.object_core.specs.Appending.{changed_at, with_contents}
 use Rattle.cranelift_module.specs.Call.{Contents, bytes, zeros}
-use Rattle.cranelift_module.specs.Definitions.{Definition, contents_of, size_of}
+use Rattle.cranelift_module.specs.Definitions.{contents_of, size_of}
 use Rattle.cranelift_module.specs.LinkState.{LinkState}
 use Rattle.cranelift_object.specs.Settings.{Settings}
-use Rattle.cranelift_object.specs.SectionClass.{Class, section_class}
-use Rattle.cranelift_object.specs.Placing.{Placed, placed_at, align_of, room_of, extent_of}
+use Rattle.cranelift_object.specs.SectionClass.{Class}
+use Rattle.cranelift_object.specs.Placing.{Placed, align_of, extent_of}
 use Rattle.cranelift_object.specs.Partial.{sections_from}
 use Rattle.cranelift_object.specs.Linked.{section_with, members, relocations_of, elf_relocation_of}
 

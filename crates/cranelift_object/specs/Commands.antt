@@ -1,6 +1,6 @@
 -- The calls that commands stand for.
 use Rattle.std.specs.Prelude.{◌≡◌, ℕ, ◌+◌, Bool, true, false, List, [], ◌∷◌, Option, Some, None, option_map, IfSome}
-use Rattle.cranelift_module.specs.Call.{Call, declare_function, declare_anonymous_function, define_function, declare_data, declare_anonymous_data, define_data}
+use Rattle.cranelift_module.specs.Call.{Call, declare_function, declare_anonymous_function, define_function}
 use Rattle.std.specs.Option.{option_or}
 use Rattle.cranelift_module.specs.declared.error.ModuleError.{ModuleError}
 use Rattle.cranelift_module.specs.LinkState.{LinkState, step}

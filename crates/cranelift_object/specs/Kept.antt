@@ -1,12 +1,11 @@
 -- What holds of every module that can be made: functions alone are declared, and defined by bytes alone.
-use Rattle.std.specs.Prelude.{◌≡◌, ℕ, ◌<◌, ◌≤◌, ◌^◌, Bool, true, false, List, [], map, length, slice_index_or, Option, Some, None}
+use Rattle.std.specs.Prelude.{◌≡◌, ℕ, ◌<◌, ◌≤◌, ◌^◌, Bool, false, List, [], map, length, slice_index_or, Option, Some, None}
 use Rattle.std.specs.List.{All, list_any, range_with_len}
 use Rattle.ir_core.specs.Moments.{Moment, moments}
 use Rattle.ir_core.specs.declared.target.BinaryFormat.TheVariants.{Elf}
 use Rattle.cranelift_module.specs.declared.identifiers.FuncOrDataId.TheVariants.{Func}
 use Rattle.cranelift_module.specs.Rows.{FunctionRow}
 use Rattle.cranelift_module.specs.Definitions.{Definition}
-use Rattle.cranelift_module.specs.LinkState.{LinkState}
 use Rattle.cranelift_module.specs.Refusal.{is_same_identifier, zero_byte}
 use Rattle.cranelift_object.specs.Opened.{BuilderData, OpenModule, function_definition}
 

@@ -1,9 +1,9 @@
 -- What contracts see of a builder, an open module and a finished product.
-use Rattle.std.specs.Prelude.{ℕ, Bool, true, false, List, [], ◌+◌, Option, Some, None}
+use Rattle.std.specs.Prelude.{ℕ, Bool, false, List, [], None}
 use Rattle.ir_core.specs.Target.{Target}
 use Rattle.object_core.specs.Object.{ObjectData}
 use Rattle.cranelift_module.specs.declared.identifiers.FuncOrDataId.TheVariants.{Func}
-use Rattle.cranelift_module.specs.Call.{Contents, bytes}
+use Rattle.cranelift_module.specs.Call.{bytes}
 use Rattle.cranelift_module.specs.Definitions.{Definition}
 use Rattle.cranelift_module.specs.LinkState.{LinkState}
 use Rattle.cranelift_object.specs.Settings.{Settings}

@@ -1,7 +1,7 @@
 -- The object of a state with its first definitions alone.
 use Rattle.std.specs.Prelude.{ℕ, ◌+◌, List, [], ◌∷◌, ◌++◌, map, None, sum_by}
 use Rattle.std.specs.List.{enumerate_from}
-use Rattle.ir_core.specs.Moments.{Moment, moments}
+use Rattle.ir_core.specs.Moments.{moments}
 use Rattle.object_core.specs.Object.{SectionData, ObjectData}
 use Rattle.object_core.specs.Appending.{file_symbol}
 use Rattle.cranelift_module.specs.Definitions.{Definition}

@@ -1,5 +1,5 @@
 -- What a finished module gives.
-use Rattle.std.specs.Prelude.{◌≡◌, ℕ, ◌+◌, Bool, List, [], map, length, unwrap_or, if◌then◌else◌}
+use Rattle.std.specs.Prelude.{◌≡◌, ℕ, ◌+◌, Bool, List, map, length, unwrap_or, if◌then◌else◌}
 use Rattle.std.specs.List.{enumerate_from, position_or_len}
 use Rattle.object_core.specs.declared.kinds.StandardSection.TheVariants.{Text}
 use Rattle.ir_core.specs.declared.target.BinaryFormat.TheVariants.{Elf}

@@ -8,7 +8,7 @@ use Rattle.std.proofs.lemmas.List.Sums.{sum_by-cons}
 use Rattle.byte_core.specs.Number.{little_bytes}
 use Rattle.byte_core.specs.Fields.{field_bytes}
 use Rattle.byte_core.specs.LaidOut.{Aligned, LaysOut, end_of_aligned, laid_out}
-use Rattle.byte_core.proofs.LaidOut.{lays_more, lays_one, length-laid_out}
+use Rattle.byte_core.proofs.LaidOut.{lays_bytes, lays_more, length-laid_out}
 use Rattle.object_core.specs.declared.symbol.Symbol.{Symbol}
 use Rattle.object_core.specs.LinkTable.{ElfTable, ElfTableSection, ElfTableSymbol}
 use Rattle.object_core.specs.declared.relocation.Relocation.{Relocation}
@@ -25,7 +25,6 @@ use Rattle.object_elf.proofs.PartCases.{names_of_parts, length-parts_of}
 use Rattle.object_elf.proofs.Fit.{machine_is, flags_are}
 use Rattle.object_elf.proofs.Tables.{relocated_is, front_count_is}
 use Rattle.std.proofs.lemmas.Option.{get_or_from_slice_get}
-use Rattle.object_elf.proofs.Parts.{next_multiple_of_one}
 use Rattle.object_elf.proofs.Places.{whole_end_is, length-header_bytes}
 
 -- ---- the symbol table
@@ -73,12 +72,6 @@ table_names ss old zero locals all z l a =
     ∙ append_assoc old (0 ∷ []) (flat_map with_zero (row_names (rows_in_order ss)))
 
 -- ---- the whole file
-
--- bytes at any place
-lays_bytes : (old new bytes : List ℕ) → new ≡ old ++ bytes → LaysOut old new (record { align = 1; bytes = bytes } ∷ [])
-lays_bytes old new bytes e =
-    let none : next_multiple_of (length old) 1 - length old ≡ 0 = omega (arith, next_multiple_of_one (length old)) in
-    lays_one old old new bytes 1 (rw none (sym (append-nil old))) e
 
 -- what stands between the file header and the names of the sections
 abbrev pub table_body : ElfTable → List Aligned

@@ -25,9 +25,9 @@ use Rattle.object_elf.specs.Fitting.{FitsElf, FitsSection, FitsSymbol, FitsReloc
 use Rattle.object_elf.specs.Writing.{NumbersFit, FitsRow, FitRows, FitSizes, FitRecords, NameSymbols, is_chosen}
 use Rattle.object_elf.specs.PlainCounts.{plain_counts}
 use Rattle.object_elf.specs.Limits.{IsWithinLimits}
-use Rattle.object_elf.proofs.Lists.{get_within, get_map_from, get_append, one_of_sum, Passing, passing}
+use Rattle.byte_core.proofs.Lists.{get_within, get_map_from, get_append, one_of_sum, Passing, passing, count_yes}
 use Rattle.object_elf.proofs.PartCases.{length-parts_of}
-use Rattle.object_elf.proofs.RelocationLoops.{count_yes, local_and_global}
+use Rattle.object_elf.proofs.RowNumbers.{local_and_global}
 use Rattle.object_elf.proofs.Tables.{symbol_count_is, section_count_is, front_count_is, symbol_names_size_is, section_names_size_is}
 
 -- ---- numbers by cases

@@ -12,7 +12,7 @@ use Rattle.object_elf.specs.Layout.{is_relocated, symbol_table_row, relocation_p
 use Rattle.object_elf.specs.ElfHolds.{ElfHolds, row_for, part_offset, record_for, relocations_row}
 use Rattle.object_elf.specs.File.{elf_file}
 use Rattle.object_elf.specs.Fitting.{FitsElf}
-use Rattle.object_elf.proofs.Lists.{get_exists, get_within}
+use Rattle.byte_core.proofs.Lists.{get_exists, get_within}
 use Rattle.object_elf.proofs.PartCases.{part_case, length-parts_of}
 use Rattle.object_elf.proofs.Places.{header_here, length-elf_file}
 use Rattle.object_elf.proofs.SectionRows.{section_row_here, null_section_here}

@@ -6,7 +6,7 @@ use Rattle.byte_core.proofs.Standing.{StandsAt, stands_behind, stands_within, st
 use Rattle.object_core.specs.LinkTable.{ElfTable}
 use Rattle.object_elf.specs.Layout.{Part, with_zero, string_bytes_of, strings_size, name_place, section_names, parts_of}
 use Rattle.object_elf.specs.Fitting.{FitsElf, IsText}
-use Rattle.object_elf.proofs.Lists.{get_map}
+use Rattle.byte_core.proofs.Lists.{get_map}
 use Rattle.object_elf.proofs.Parts.{length-with_zeros, length-string_bytes_of}
 use Rattle.object_elf.specs.PartView.{part_name}
 use Rattle.object_elf.proofs.PartCases.{names_of_parts, PartCase, Relocates}

@@ -9,7 +9,7 @@ use Rattle.object_core.specs.LinkTable.{ElfTable, ElfTableSection}
 use Rattle.object_elf.specs.Layout.{Part, is_relocated, strings_size, section_names, symbol_names, content_part, note_part, relocation_part, relocation_name, symbol_part, string_part, parts_of}
 use Rattle.object_elf.specs.File.{section_contents, relocation_contents, symbol_contents, string_contents, contents_of}
 use Rattle.object_elf.specs.PartView.{part_name}
-use Rattle.object_elf.proofs.Lists.{get_left, get_right, get_append, get_map, get_map_from, get_filter}
+use Rattle.byte_core.proofs.Lists.{get_left, get_right, get_append, get_map, get_map_from, get_filter}
 
 -- how many parts stand before the symbol table
 abbrev pub front_count : ElfTable → ℕ

@@ -5,6 +5,7 @@ use Rattle.std.specs.List.{enumerate_from}
 use Rattle.std.specs.Int.{next_multiple_of}
 use Rattle.std.proofs.lemmas.List.Sums.{sum_by-cons}
 use Rattle.byte_core.specs.LaidOut.{Aligned, end_behind, end_of_aligned}
+use Rattle.byte_core.proofs.LaidOut.{next_multiple_of_one}
 use Rattle.byte_core.proofs.Standing.{length-rows}
 use Rattle.object_core.specs.LinkTable.{ElfTable, ElfTableSection, ElfTableSymbol}
 use Rattle.object_elf.specs.Layout.{Part, is_relocated, with_zero, string_bytes_of, strings_size, section_names, symbol_names, content_part, note_part, relocation_part, symbol_part, string_part, parts_of, is_stored, start_after, end_after}
@@ -66,9 +67,6 @@ fit_contents (q ∷ ps) (d ∷ cs) zero p f e = let same : q ≡ p = cc in (d, r
 fit_contents (q ∷ ps) (d ∷ cs) (suc k) p f e = fit_contents ps cs k p f.1 e
 
 -- ---- each part of a table
-
-pub next_multiple_of_one : (n : ℕ) → next_multiple_of n 1 ≡ n
-next_multiple_of_one n = omega arith
 
 -- a part that is stored
 pub fit_stored : (p : Part) (c : Aligned) → is_stored p ≡ true → p.align ≡ c.align → p.size ≡ length c.bytes → FitsPart p c

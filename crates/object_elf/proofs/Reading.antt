@@ -8,7 +8,7 @@ use Rattle.object_elf.specs.Layout.{Part, symbol_table_row, strings_size, sectio
 use Rattle.object_elf.specs.ElfHolds.{header_for, row_for, row_at, part_offset}
 use Rattle.object_elf.specs.File.{elf_file}
 use Rattle.object_elf.specs.Fitting.{FitsElf}
-use Rattle.object_elf.proofs.Lists.{get_exists}
+use Rattle.byte_core.proofs.Lists.{get_exists}
 use Rattle.object_elf.proofs.Rows.{FitsHeader, header_stands}
 use Rattle.object_elf.proofs.PartCases.{front_count, part_case, length-parts_of, part_at_section_strings}
 use Rattle.object_elf.proofs.Places.{header_here}

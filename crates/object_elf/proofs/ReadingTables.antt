@@ -9,7 +9,7 @@ use Rattle.object_elf.specs.Layout.{Part, symbol_table_row, strings_size, symbol
 use Rattle.object_elf.specs.ElfHolds.{row_for, part_offset, symbol_for}
 use Rattle.object_elf.specs.File.{elf_file}
 use Rattle.object_elf.specs.Fitting.{FitsElf, HasContents}
-use Rattle.object_elf.proofs.Lists.{get_exists, get_map}
+use Rattle.byte_core.proofs.Lists.{get_exists, get_map}
 use Rattle.object_elf.proofs.PartCases.{front_count, PartCase, part_case, Relocates, length-parts_of, part_at_symbols, part_at_symbol_strings}
 use Rattle.object_elf.proofs.PartCases.PartCase.{is_content, is_note, is_relocations, is_symbols, is_symbol_strings, is_section_strings}
 use Rattle.object_elf.proofs.SectionRows.{PartHere, part_here}

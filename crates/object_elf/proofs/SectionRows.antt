@@ -10,7 +10,7 @@ use Rattle.object_elf.specs.Layout.{Part, strings_size, name_place, section_name
 use Rattle.object_elf.specs.ElfHolds.{null_section, row_for, row_at, part_offset}
 use Rattle.object_elf.specs.File.{section_row_with, section_row_bytes, section_rows, section_rows_from, contents_of, elf_file}
 use Rattle.object_elf.specs.Fitting.{FitsElf, FitsSection}
-use Rattle.object_elf.proofs.Lists.{get_within}
+use Rattle.byte_core.proofs.Lists.{get_within}
 use Rattle.object_elf.proofs.Rows.{FitsSectionRow, section_row_stands, length-section_row_bytes}
 use Rattle.object_elf.proofs.Parts.{FitsPart, fit_contents, fit_table}
 use Rattle.object_elf.specs.PartView.{part_name}

@@ -8,7 +8,7 @@ use Rattle.object_core.specs.LinkTable.{ElfTableSymbol}
 use Rattle.object_core.specs.ElfRows.{elf_symbol}
 use Rattle.object_elf.specs.File.{symbol_row_with, symbol_row_bytes, symbol_rows_from}
 use Rattle.object_elf.specs.Writing.{is_chosen, chosen, name_size, names_size}
-use Rattle.object_elf.proofs.Lists.{item_drop}
+use Rattle.byte_core.proofs.Lists.{item_drop}
 
 chosen_cons : (local : Bool) (s : Symbol) (ss : List Symbol) → is_chosen local s ≡ true → chosen local (s ∷ ss) ≡ elf_symbol s ∷ chosen local ss
 chosen_cons local s ss t = rw t refl

@@ -15,7 +15,7 @@ use Rattle.object_elf.specs.Writing.{has_relocations, chosen}
 use Rattle.object_elf.specs.PartView.{symbol_part_of, content_part_of, relocation_part_of, relocation_parts_from, has_records}
 use Rattle.object_elf.specs.PlainCounts.{plain_counts, symbol_name_size, section_name_size}
 use Rattle.object_elf.proofs.PartCases.{front_count, length-parts_of}
-use Rattle.object_elf.proofs.RelocationLoops.{local_and_global}
+use Rattle.object_elf.proofs.RowNumbers.{local_and_global}
 
 -- ---- sections
 

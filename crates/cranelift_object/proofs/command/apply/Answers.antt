@@ -1,4 +1,4 @@
-use Rattle.cranelift_object.proofs.ApplyLaws.{run_at, run_ended, run_plain, run_room, run_next, run_refused, run_free, run_whole, run_so_far}
+use Rattle.cranelift_object.proofs.ApplyLaws.{run_at, run_ended, run_plain, run_next, run_refused, run_free, run_whole}
 use Rattle.cranelift_object.proofs.RunLaws.{whole_run, none_refused, refused_first}
 use Rattle.cranelift_object.proofs.command.apply.Goals as goal
 

@@ -1,4 +1,4 @@
-use Rattle.std.proofs.Common.{◌≡◌, map, drop}
+use Rattle.std.proofs.Common.{map, drop}
 use Rattle.cranelift_object.specs.Commands.{command_view}
 use Rattle.cranelift_object.proofs.ApplyLaws.{IsRunning}
 use Rattle.cranelift_object.proofs.command.apply.Given as goal

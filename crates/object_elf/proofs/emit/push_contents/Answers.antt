@@ -1,9 +1,9 @@
 use Rattle.std.proofs.Common.{◌<◌, ◌^◌, ◌++◌, arith, ap, ◌∙◌}
-use Rattle.byte_core.proofs.LaidOut.{lays_none}
+use Rattle.byte_core.proofs.LaidOut.{lays_none, laid_next}
 use Rattle.object_core.specs.Object.{SectionData}
 use Rattle.object_elf.specs.Writing.{contents_at}
-use Rattle.object_elf.proofs.Lists.{each_more, each_all}
-use Rattle.object_elf.proofs.RelocationLoops.{contents_next, laid_next}
+use Rattle.byte_core.proofs.Lists.{each_more, each_all}
+use Rattle.object_elf.proofs.SectionLoops.{contents_next}
 use Rattle.object_elf.proofs.emit.push_contents.Goals as goal
 
 pub loop-section-init : goal.loop-section-init

@@ -4,7 +4,7 @@ use Rattle.object_elf.specs.ElfHolds.{header_for}
 use Rattle.object_elf.specs.File.{header_bytes}
 use Rattle.object_elf.specs.PartView.{with_end}
 use Rattle.object_elf.specs.Writing.{header_with}
-use Rattle.object_elf.proofs.RelocationLoops.{lays_as}
+use Rattle.byte_core.proofs.LaidOut.{lays_as}
 use Rattle.object_elf.proofs.Fit.{table_fits, formed_names}
 use Rattle.object_elf.proofs.Tables.{section_names_size_is}
 use Rattle.object_elf.proofs.Emitting.{part_count, part_count_is, start_is, header_is_of, part_names_are, body_is, file_is}

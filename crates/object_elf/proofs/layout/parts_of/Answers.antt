@@ -4,7 +4,7 @@ use Rattle.object_core.specs.Object.{SectionData}
 use Rattle.object_core.specs.ElfRows.{elf_table_of}
 use Rattle.object_elf.specs.Layout.{symbol_table_row, string_part}
 use Rattle.object_elf.specs.PlainCounts.{symbol_name_size, section_name_size}
-use Rattle.object_elf.proofs.Lists.{one_of_sum}
+use Rattle.byte_core.proofs.Lists.{one_of_sum}
 use Rattle.object_elf.proofs.PartLoops.{parts_listed}
 use Rattle.object_elf.proofs.Tables.{parts_are, table_row_is, symbol_names_size_is, section_names_size_is, symbol_part_is}
 use Rattle.object_elf.proofs.layout.parts_of.Goals as goal

@@ -2,7 +2,7 @@ use Rattle.std.proofs.Common.{arith, get_or, ap, sym}
 use Rattle.object_core.specs.declared.relocation.Relocation.{Relocation}
 use Rattle.object_elf.specs.File.{relocation_row_bytes}
 use Rattle.object_elf.specs.Writing.{FitsRecord, record_by}
-use Rattle.object_elf.proofs.Lists.{item_get, item_drop, each_more, each_all, flat_more}
+use Rattle.byte_core.proofs.Lists.{item_get, item_drop, each_more, each_all, flat_more}
 use Rattle.object_elf.proofs.relocation_rows.push_records.Goals as goal
 
 pub bounds-rows-as_number : goal.bounds-rows-as_number

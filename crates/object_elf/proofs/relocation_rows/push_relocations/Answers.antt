@@ -1,9 +1,9 @@
 use Rattle.std.proofs.Common.{arith, ap, sym, ◌∙◌, length, ◌++◌}
 use Rattle.object_core.specs.Object.{SectionData}
 use Rattle.object_elf.specs.Writing.{FitRecords, record_bytes_by}
-use Rattle.byte_core.proofs.LaidOut.{lays_none}
-use Rattle.object_elf.proofs.Lists.{item_get, each_more, each_all}
-use Rattle.object_elf.proofs.RelocationLoops.{relocated_passed, relocated_next, laid_next, lays_as, has_none, has_some, fit_none}
+use Rattle.byte_core.proofs.LaidOut.{lays_none, laid_next, lays_as}
+use Rattle.byte_core.proofs.Lists.{item_get, each_more, each_all}
+use Rattle.object_elf.proofs.SectionLoops.{relocated_passed, relocated_next, has_none, has_some, fit_none}
 use Rattle.object_elf.proofs.relocation_rows.push_relocations.Goals as goal
 
 pub loop-section-init : goal.loop-section-init

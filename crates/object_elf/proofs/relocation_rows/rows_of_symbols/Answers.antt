@@ -1,6 +1,7 @@
 use Rattle.std.proofs.Common.{arith, ap, sym, ◌∙◌, not}
 use Rattle.object_core.specs.Object.{is_local, is_global}
-use Rattle.object_elf.proofs.RelocationLoops.{rows_next, local_row, other_row, count_yes, count_no, other_room, length_next}
+use Rattle.object_elf.proofs.RowNumbers.{rows_next, local_row, other_row, other_room}
+use Rattle.byte_core.proofs.Lists.{count_yes, count_no, length_next}
 use Rattle.object_elf.proofs.relocation_rows.rows_of_symbols.Goals as goal
 
 pub loop-symbol-preserved-then-is_local : goal.loop-symbol-preserved-then-is_local

@@ -1,7 +1,7 @@
 use Rattle.std.proofs.Common.{◌≡◌, ◌<◌, ◌^◌, ◌+◌, length, sym, ◌∙◌, ap, true}
 use Rattle.object_core.specs.declared.symbol.Symbol.{Symbol}
 use Rattle.object_elf.specs.Writing.{is_chosen}
-use Rattle.object_elf.proofs.Lists.{item_get, each_more, each_all}
+use Rattle.byte_core.proofs.Lists.{item_get, each_more, each_all}
 use Rattle.object_elf.proofs.SymbolLoops.{chosen_next, chosen_passed, chosen_none, rows_more, rows_all, names_more, passed_rows, passed_names, not_chosen}
 use Rattle.object_elf.proofs.symbol_rows.push_symbol_rows.Goals as goal
 

@@ -1,15 +1,10 @@
-use Rattle.std.proofs.Common.{◌≡◌, ◌<◌, ◌+◌, ℕ, Bool, List, length, suc, take, get_or, Option, Some, refl, ap, sym, ◌∙◌, subst, arith}
-use Rattle.std.specs.Prelude.{slice_get, slice_index_or}
+use Rattle.std.proofs.Common.{◌≡◌, ◌<◌, length, get_or, ap, ◌∙◌, subst, arith}
 use Rattle.ir_core.specs.Target.{Target, symbol_alignment}
-use Rattle.ir_core.specs.declared.target.BinaryFormat.TheVariants.{Elf}
 use Rattle.object_core.specs.Object.{ObjectData}
-use Rattle.object_core.specs.Appending.{IsUndefined, HasBytes}
-use Rattle.cranelift_module.specs.Definitions.{Definition}
-use Rattle.cranelift_object.specs.Opened.{OpenModule, function_definition}
+use Rattle.cranelift_object.specs.Opened.{OpenModule}
 use Rattle.cranelift_object.specs.Kept.{IsModule}
-use Rattle.cranelift_object.specs.Partial.{partial, opened}
 use Rattle.cranelift_object.proofs.ObjectLaws.{partial_format, opened_format}
-use Rattle.cranelift_object.proofs.DefineLaws.{IsAdding, adding, definition_step, opened_undefined, opened_bytes, opened_sum, function_opened, function_number, mark_at, marks_length, align_power, symbol_in_row, later_is, section_is, adds}
+use Rattle.cranelift_object.proofs.DefineLaws.{adding, opened_undefined, opened_bytes, opened_sum, marks_length, align_power, symbol_in_row, later_is, section_is, adds}
 use Rattle.cranelift_object.proofs.backend.ObjectModule.add_definition.Goals as goal
 
 pub section_of-requires : goal.section_of-requires

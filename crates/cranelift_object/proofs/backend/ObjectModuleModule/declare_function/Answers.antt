@@ -1,4 +1,4 @@
-use Rattle.std.proofs.Common.{◌≡◌, ◌<◌, ◌++◌, ◌∷◌, [], List, None, false, length, ap, subst, sym, ◌∙◌, refl}
+use Rattle.std.proofs.Common.{◌≡◌, ◌<◌, None, length, ap, subst, sym, ◌∙◌, refl}
 use Rattle.cranelift_module.specs.Refusal.{zero_byte}
 use Rattle.cranelift_object.specs.Opened.{OpenModule}
 use Rattle.cranelift_object.specs.contracts.backend.ObjectModule.{the_view}

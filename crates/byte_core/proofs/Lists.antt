@@ -1,7 +1,7 @@
 -- Elements of lists by their places.
-use Rattle.std.proofs.Common.{◌≡◌, ℕ, zero, suc, ◌+◌, ◌<◌, ◌≤◌, List, [], ◌∷◌, ◌++◌, length, take, map, refl, ap, sym, ◌∙◌, arith, Some, Bool, true, false, slice_get, ◌⊎◌, inl, inr, cond, get_or, drop, subst, append_assoc, append-nil}
+use Rattle.std.proofs.Common.{◌≡◌, ℕ, zero, suc, ◌+◌, ◌<◌, ◌≤◌, List, [], ◌∷◌, ◌++◌, length, take, map, refl, ap, sym, ◌∙◌, arith, Some, Bool, true, false, slice_get, ◌⊎◌, inl, inr, cond, get_or, drop, subst, append_assoc, append-nil, length-append}
 use Rattle.std.specs.Prelude.{filter, count_by, sum_by, flat_map}
-use Rattle.std.proofs.lemmas.List.Sums.{sum_by-cons}
+use Rattle.std.proofs.lemmas.List.Sums.{sum_by-cons, count_by_more_yes, count_by_more_no}
 use Rattle.std.proofs.lemmas.List.{drop_more, take_more, drop_all}
 use Rattle.std.proofs.lemmas.Option.{slice_get_read}
 
@@ -77,7 +77,7 @@ item_drop xs i x h e = drop_more xs i x h ∙ ap (λ y. y ∷ drop (i + 1) xs) (
 pub item_take : {X : Type 0} (xs : List X) (i : ℕ) (x : X) → i < length xs → x ≡ get_or xs i x → take (i + 1) xs ≡ take i xs ++ x ∷ []
 item_take xs i x h e = take_more xs i x h ∙ ap (λ y. take i xs ++ y ∷ []) (sym e)
 
-below_or_here : (k i : ℕ) → k < i + 1 → (k < i) ⊎ (i ≡ k)
+pub below_or_here : (k i : ℕ) → k < i + 1 → (k < i) ⊎ (i ≡ k)
 below_or_here k i h = grind (arith)
 
 each_here_or_before : {X : Type 0} (P : X → Type 0) (xs : List X) (i : ℕ) (x : X) → slice_get xs i ≡ Some x → ((k : ℕ) (y : X) → k < i → slice_get xs k ≡ Some y → P y) → P x → (k : ℕ) (y : X) → (k < i) ⊎ (i ≡ k) → slice_get xs k ≡ Some y → P y
@@ -126,3 +126,21 @@ pub passing : {X : Type 0} (p : X → Bool) (xs : List X) (k : ℕ) (x : X) → 
 passing p [] zero x h = absurd (cc)
 passing p [] (suc k) x h = absurd (cc)
 passing p (y ∷ xs) k x h = passing_past p y xs (p y) refl (passing p xs) k x h
+
+pub length_next : {X : Type 0} (xs new : List X) (x : X) (n : ℕ) → new ≡ xs ++ x ∷ [] → length xs ≡ n → length new ≡ n + 1
+length_next xs new x n e h = ap length e ∙ length-append xs (x ∷ []) ∙ ap (λ m. m + 1) h
+
+-- one more element passes, or doesn't
+pub count_yes : {X : Type 0} (p : X → Bool) (xs : List X) (i : ℕ) (x : X) → i < length xs → x ≡ get_or xs i x → p x ≡ true → count_by p (take (i + 1) xs) ≡ count_by p (take i xs) + 1
+count_yes p xs i x h e t = count_by_more_yes p xs i x h (ap p (sym e) ∙ t)
+
+pub count_no : {X : Type 0} (p : X → Bool) (xs : List X) (i : ℕ) (x : X) → i < length xs → x ≡ get_or xs i x → p x ≡ false → count_by p (take (i + 1) xs) ≡ count_by p (take i xs)
+count_no p xs i x h e t = count_by_more_no p xs i x h (ap p (sym e) ∙ t)
+
+filter_append_past : {X : Type 0} (b : Bool) (x : X) (xs ys zs : List X) → zs ≡ xs ++ ys → cond b (x ∷ zs) zs ≡ cond b (x ∷ xs) xs ++ ys
+filter_append_past true x xs ys zs e = ap (λ l. x ∷ l) e
+filter_append_past false x xs ys zs e = e
+
+pub filter_append : {X : Type 0} (p : X → Bool) (xs ys : List X) → filter p (xs ++ ys) ≡ filter p xs ++ filter p ys
+filter_append p [] ys = refl
+filter_append p (x ∷ xs) ys = filter_append_past (p x) x (filter p xs) (filter p ys) (filter p (xs ++ ys)) (filter_append p xs ys)
