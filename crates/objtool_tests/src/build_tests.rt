@@ -86,26 +86,24 @@ fn three_functions_stand_in_order_of_their_definitions(rt: HostRuntime) -> Resul
 }
 
 #[test]
-fn the_greatest_linkage_counts_and_a_function_may_have_no_name(
-    rt: HostRuntime,
-) -> Result<(), Fail> {
+fn the_greatest_linkage_of_a_name_counts(rt: HostRuntime) -> Result<(), Fail> {
     let alloc = rt.alloc();
     let build = words(alloc, &["build"])?;
-    let mut commands = String::new(alloc);
-    for linkage in ["Import", "Hidden", "Local", "Preemptible", "Hidden"] {
-        if !commands.is_empty() {
-            commands.push(',')?;
-        }
-        let command = format!(in alloc;
-            "{{\"op\":\"declare_function\",\"name\":\"w\",\"linkage\":\"{linkage}\"}}"
-        )?;
-        commands.push_str(command.as_str())?;
-    }
-    let text = part_of(alloc, commands.as_str())?;
+    let text = part_of(
+        alloc,
+        "{\"op\":\"declare_function\",\"name\":\"w\",\"linkage\":\"Import\"},{\"op\":\"declare_function\",\"name\":\"w\",\"linkage\":\"Hidden\"},{\"op\":\"declare_function\",\"name\":\"w\",\"linkage\":\"Local\"},{\"op\":\"declare_function\",\"name\":\"w\",\"linkage\":\"Preemptible\"},{\"op\":\"declare_function\",\"name\":\"w\",\"linkage\":\"Hidden\"}",
+    )?;
     let mut host = MemHost::new(alloc, text.as_bytes(), NONE, 2000)?;
     assert_eq!(rt; run(alloc, &build, &mut host), 0);
     assert_eq!(rt; host.output().len(), 2 * 512 + 1);
     assert!(rt; host.output() == WEAK_FILE.as_bytes());
+    Ok(())
+}
+
+#[test]
+fn a_function_without_a_name_has_a_local_symbol(rt: HostRuntime) -> Result<(), Fail> {
+    let alloc = rt.alloc();
+    let build = words(alloc, &["build"])?;
     let text = part_of(
         alloc,
         "{\"op\":\"declare_anonymous_function\",\"signature\":{}},{\"op\":\"define_function\",\"id\":0,\"bytes\":\"C3\"}",
