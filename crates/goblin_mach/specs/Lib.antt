@@ -1,0 +1,3 @@
+pub mod FatFile
+pub mod FatTable
+pub mod Architectures
