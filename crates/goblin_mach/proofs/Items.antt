@@ -1,5 +1,7 @@
 -- The items of a table, one after the other.
-use Rattle.std.proofs.Common.{◌≡◌, ℕ, zero, suc, ◌+◌, ◌-◌, ◌<◌, ◌≤◌, min, nat_lt, Bool, true, false, cond, List, [], ◌∷◌, ◌++◌, length, map, Result, Ok, Err, refl, ap, sym, ◌∙◌, append-nil, arith}
+use Rattle.std.proofs.Common.{◌≡◌, ℕ, zero, suc, ◌+◌, ◌-◌, ◌<◌, ◌≤◌, min, nat_lt, Bool, true, false, cond, List, [], ◌∷◌, ◌++◌, length, map, Result, Ok, Err, refl, ap, sym, ◌∙◌, append-nil, length-append, arith}
+use Rattle.std.proofs.lemmas.List.{length-map}
+use Rattle.std.proofs.lemmas.List.FromFn.{length-map-range_with_len}
 use Rattle.std.proofs.lemmas.Bool.{lt-ltb, ltb-true, ltb-false}
 use Rattle.goblin_mach.specs.declared.fat.FatArch.{FatArch}
 use Rattle.goblin_mach.specs.declared.mach_error.Error.{Error}
@@ -80,3 +82,15 @@ error_item fat xs left rest d next items =
     let (test, same) = error_given xs (fat_arches fat) (nat_lt (whole_entries fat.bytes) fat.narches) BufferTooShort d rest (ap (λ l. map Ok xs ++ l) (sym next) ∙ items) in
     let short : whole_entries fat.bytes < fat.narches = ltb-true (whole_entries fat.bytes) fat.narches test in
     rw same short
+
+error_length : (b : Bool) (e : Error) → let none : List (Result FatArch Error) = [] in length (cond b (Err e ∷ none) none) ≤ 1
+error_length true e = omega arith
+error_length false e = omega arith
+
+-- an iteration has one item more than the file has entries, at most
+pub length-items : (fat : FatFile) → length (fat_items fat) ≤ whole_entries fat.bytes + 1
+unfolding items_from arches_from
+length-items fat =
+    let entries = length-map-range_with_len (arch_at fat.bytes) 0 (min fat.narches (whole_entries fat.bytes) - 0) in
+    let given = fat_arches fat in
+    omega (arith, length-append (map {B = Result FatArch Error} Ok given) (cond (nat_lt (whole_entries fat.bytes) fat.narches) (Err BufferTooShort ∷ []) []), length-map {B = Result FatArch Error} given Ok, entries, error_length (nat_lt (whole_entries fat.bytes) fat.narches) BufferTooShort)

@@ -1,3 +1,5 @@
 pub mod Words
 pub mod Items
 pub mod Names
+pub mod NameLaws
+pub mod TableLaws

@@ -45,9 +45,12 @@ is_named name a = bytes_eq a.name name
 abbrev pub is_of : ℕ → ℕ → Architecture → Bool
 is_of cputype cpusubtype a = (a.cputype == cputype) && (a.cpusubtype == cpusubtype)
 
+abbrev pub pair_of : Architecture → ℕ × ℕ
+pair_of a = (a.cputype, a.cpusubtype)
+
 -- the type and subtype that a name stands for in a table; the name that it has for a type and subtype
 abbrev pub pair_in : List Architecture → List ℕ → Option (ℕ × ℕ)
-pair_in table name = option_map (λ a. (a.cputype, a.cpusubtype)) (find (is_named name) table)
+pair_in table name = option_map pair_of (find (is_named name) table)
 
 abbrev pub name_in : List Architecture → ℕ → ℕ → Option (List ℕ)
 name_in table cputype cpusubtype = option_map (λ a. a.name) (find (is_of cputype cpusubtype) table)

@@ -1,3 +1,10 @@
+pub mod Versions
+pub mod Sections
+pub mod Segments
+pub mod Protections
+pub mod Headers
+pub mod Processors
+pub mod Architectures
 pub mod FatFile
 pub mod FatTable
-pub mod Architectures
+pub mod Laws

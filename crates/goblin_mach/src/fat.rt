@@ -1,7 +1,7 @@
 //! The table with which a fat file begins: Apple's `mach-o/fat.h`, `struct fat_header` and
 //! `struct fat_arch`. All its numbers are big-endian.
 
-ghost use Rattle.std.specs.Prelude.{◌≡◌, ◌+◌, ◌<◌, ◌≤◌, length, IfOk, IfErr, IfSome, IfNone};
+ghost use Rattle.std.specs.Prelude.{◌≡◌, ◌+◌, ◌^◌, ◌<◌, ◌≤◌, length, IfOk, IfErr, IfSome, IfNone};
 ghost use Rattle.std.specs.Iterator.{YieldsFirst, item_count};
 ghost use Rattle.byte_core.specs.Number.{where_inside};
 ghost use Rattle.goblin_mach.specs.FatTable.{word_at, fat_table, fat_items, fat_arches, whole_entries, arch_at, place_of_arch, ExplainsTable};
@@ -73,7 +73,8 @@ impl<'a> MultiArch<'a> {
 
     /// The entries by number. The first that the file doesn't have whole is the last item, an error.
     pub fn iter_arches(&self) -> FatArchIterator<'_>
-        ensures { result ≡ fat_items self.now }
+        ensures items { result ≡ fat_items self.now }
+        ensures bound { length result < 2 ^ 64 }
     {
         FatArchIterator {
             bytes: self.bytes,
