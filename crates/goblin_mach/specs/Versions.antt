@@ -1,4 +1,4 @@
--- The versions of macOS and iOS that the dynamic linker compares: Apple's mach-o/dyld.h. Of macOS 10.13 the major number 10
+-- The versions of macOS and iOS that the dynamic linker compares: Apple's mach-o/dyld_priv.h. Of macOS 10.13 the major number 10
 -- stands above the lowest 16 bits, then the minor number 13 and the patch 0, 8 bits each.
 use Rattle.std.specs.Prelude.{ℕ, List, [], ◌∷◌}
 use Rattle.goblin_mach.specs.declared.constants.TheConstants.{DYLD_MACOSX_VERSION_10_4, DYLD_MACOSX_VERSION_10_5, DYLD_MACOSX_VERSION_10_6, DYLD_MACOSX_VERSION_10_7, DYLD_MACOSX_VERSION_10_8, DYLD_MACOSX_VERSION_10_9, DYLD_MACOSX_VERSION_10_10, DYLD_MACOSX_VERSION_10_11, DYLD_MACOSX_VERSION_10_12, DYLD_MACOSX_VERSION_10_13, DYLD_IOS_VERSION_2_0, DYLD_IOS_VERSION_2_1, DYLD_IOS_VERSION_2_2, DYLD_IOS_VERSION_3_0, DYLD_IOS_VERSION_3_1, DYLD_IOS_VERSION_3_2, DYLD_IOS_VERSION_4_0, DYLD_IOS_VERSION_4_1, DYLD_IOS_VERSION_4_2, DYLD_IOS_VERSION_4_3, DYLD_IOS_VERSION_5_0, DYLD_IOS_VERSION_5_1, DYLD_IOS_VERSION_6_0, DYLD_IOS_VERSION_6_1, DYLD_IOS_VERSION_7_0, DYLD_IOS_VERSION_7_1, DYLD_IOS_VERSION_8_0, DYLD_IOS_VERSION_9_0, DYLD_IOS_VERSION_10_0, DYLD_IOS_VERSION_11_0}

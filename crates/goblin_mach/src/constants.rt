@@ -1,6 +1,6 @@
 //! Numbers and names of Mach-O files: versions that the dynamic linker compares, the flags of a section,
-//! the usual segments and sections, and protections of memory. Apple's `mach-o/loader.h` ("section",
-//! "section_64"), `mach-o/dyld.h` and `mach/vm_prot.h`.
+//! the usual segments and sections, and protections of memory. Apple's `mach-o/dyld_priv.h`,
+//! `mach-o/loader.h` ("section", "section_64") and `mach/vm_prot.h`.
 
 // Versions: the major number above the lowest 16 bits, then the minor number and the patch, 8 bits each.
 

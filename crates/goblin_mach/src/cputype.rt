@@ -338,13 +338,14 @@ pub fn get_arch_from_flag(name: &str) -> Option<(CpuType, CpuSubType)>
     pair_in(&ARCHITECTURES, name).or(pair_in(&ALIASES, name))
 }
 
-/// The name of an architecture. The subtype is compared with its feature bits.
+/// The name of the architecture of a type and subtype. The subtype is compared with its feature bits.
 pub fn get_arch_name_from_types(cputype: CpuType, cpusubtype: CpuSubType) -> Option<&'static str>
     ensures { option_copied result ≡ name_of_pair cputype cpusubtype }
 {
     name_in(&ARCHITECTURES, cputype, cpusubtype)
 }
 
+// The type and subtype of the first row of that name.
 fn pair_in(rows: &[Row], name: &str) -> Option<(CpuType, CpuSubType)>
     ensures { result ≡ pair_in (map row_view rows.now) name.now }
 {
@@ -356,6 +357,7 @@ fn pair_in(rows: &[Row], name: &str) -> Option<(CpuType, CpuSubType)>
     None
 }
 
+// The name of the first row of that type and subtype.
 fn name_in(rows: &[Row], cputype: CpuType, cpusubtype: CpuSubType) -> Option<&'static str>
     ensures { option_copied result ≡ name_in (map row_view rows.now) cputype cpusubtype }
 {

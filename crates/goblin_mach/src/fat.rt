@@ -161,6 +161,7 @@ fn read_arch(bytes: &[u8], number: usize) -> Option<FatArch>
     })
 }
 
+// The big-endian number of the four bytes at `offset`, None where they leave the bytes.
 fn word(bytes: &[u8], offset: usize) -> Option<u32>
     ensures { result ≡ where_inside bytes.now offset 4 (word_at bytes.now offset) }
 {
