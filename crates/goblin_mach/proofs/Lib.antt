@@ -3,3 +3,4 @@ pub mod Items
 pub mod Names
 pub mod NameLaws
 pub mod TableLaws
+pub mod Examples
