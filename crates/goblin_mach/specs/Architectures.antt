@@ -9,6 +9,7 @@ pub record Architecture : Type 0 where
   pub cputype : ℕ
   pub cpusubtype : ℕ
 
+-- the architecture of these
 abbrev pub arch : List ℕ → ℕ → ℕ → Architecture
 arch name cputype cpusubtype = record { name = name; cputype = cputype; cpusubtype = cpusubtype }
 
@@ -38,20 +39,23 @@ architectures =
 unfoldable pub aliases : List Architecture
 aliases = arch (codes "pentium") 7 5 ∷ arch (codes "pentpro") 7 22 ∷ arch (codes "x86") 7 3 ∷ []
 
--- the architecture has this name; it has this type and this subtype, feature bits and all
+-- the architecture has this name
 abbrev pub is_named : List ℕ → Architecture → Bool
 is_named name a = bytes_eq a.name name
 
+-- it has this type and this subtype, feature bits and all
 abbrev pub is_of : ℕ → ℕ → Architecture → Bool
 is_of cputype cpusubtype a = (a.cputype == cputype) && (a.cpusubtype == cpusubtype)
 
+-- its type and subtype
 abbrev pub pair_of : Architecture → ℕ × ℕ
 pair_of a = (a.cputype, a.cpusubtype)
 
--- the type and subtype that a name stands for in a table; the name that it has for a type and subtype
+-- the type and subtype that a name stands for in a table
 abbrev pub pair_in : List Architecture → List ℕ → Option (ℕ × ℕ)
 pair_in table name = option_map pair_of (find (is_named name) table)
 
+-- the name that a table has for a type and subtype
 abbrev pub name_in : List Architecture → ℕ → ℕ → Option (List ℕ)
 name_in table cputype cpusubtype = option_map (λ a. a.name) (find (is_of cputype cpusubtype) table)
 

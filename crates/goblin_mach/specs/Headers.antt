@@ -9,5 +9,6 @@ magic_numbers =
     (MH_MAGIC, 0xfeedface) ∷ (MH_CIGAM, 0xcefaedfe) ∷ (MH_MAGIC_64, 0xfeedfacf) ∷ (MH_CIGAM_64, 0xcffaedfe)
     ∷ (FAT_MAGIC, 0xcafebabe) ∷ (FAT_MAGIC_64, 0xcafebabf) ∷ []
 
+-- each size beside its number of bytes
 unfoldable pub header_sizes : List (ℕ × ℕ)
 header_sizes = (SIZEOF_HEADER_32, 28) ∷ (SIZEOF_HEADER_64, 32) ∷ (SIZEOF_FAT_HEADER, 8) ∷ (SIZEOF_FAT_ARCH, 20) ∷ []

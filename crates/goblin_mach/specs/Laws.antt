@@ -6,10 +6,11 @@ use Rattle.goblin_mach.specs.FatFile.{FatFile}
 use Rattle.goblin_mach.specs.FatTable.{place_of_arch, arch_at, fat_items}
 use Rattle.goblin_mach.specs.Architectures.{arch, architectures, aliases, pair_named, name_of_pair}
 
--- each constant is the number beside it; each text is the one beside it
+-- each constant is the number beside it
 abbrev pub AreNumbers : List (ℕ × ℕ) → Type 0
 AreNumbers rows = IsTrue (list_all (λ row. row.0 == row.1) rows)
 
+-- each constant is the text beside it
 abbrev pub AreTexts : List (List ℕ × List ℕ) → Type 0
 AreTexts rows = IsTrue (list_all (λ row. bytes_eq row.0 row.1) rows)
 

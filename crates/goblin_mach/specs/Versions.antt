@@ -11,6 +11,7 @@ macos_versions =
     ∷ (DYLD_MACOSX_VERSION_10_10, 0x000a0a00) ∷ (DYLD_MACOSX_VERSION_10_11, 0x000a0b00) ∷ (DYLD_MACOSX_VERSION_10_12, 0x000a0c00)
     ∷ (DYLD_MACOSX_VERSION_10_13, 0x000a0d00) ∷ []
 
+-- each constant beside its number
 unfoldable pub ios_versions : List (ℕ × ℕ)
 ios_versions =
     (DYLD_IOS_VERSION_2_0, 0x00020000) ∷ (DYLD_IOS_VERSION_2_1, 0x00020100) ∷ (DYLD_IOS_VERSION_2_2, 0x00020200)
