@@ -1,0 +1,4 @@
+pub mod Distinct
+pub mod Lookup
+pub mod Machines
+pub mod NameLaws
