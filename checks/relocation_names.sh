@@ -18,6 +18,9 @@ numbers() {
 }
 cat "$crates"/goblin_reloc/src/*.rt | numbers > "$room/numbers"
 numbers < "$1" > "$room/their_numbers"
+# each row of the tables that contracts cite, whose constant has to be the one of its name
+sed -n 's/.*row \([0-9]*\) (codes "\(R_[A-Za-z0-9_]*\)") \2$/\2 \1/p' "$crates"/goblin_reloc/specs/*.antt | sort > "$room/rows"
+cp "$room/their_numbers" "$room/their_rows"
 # each constant with the text that is told of it
 cat "$crates"/goblin_reloc_names/src/*.rt | tr '\n' ' ' \
     | grep -o '[a-z0-9_]*::R_[A-Za-z0-9_]*, *"[^"]*"' | sed 's/^[a-z0-9_]*::\(R_[A-Za-z0-9_]*\), *"\(.*\)"$/\1 \2/' \
@@ -26,8 +29,8 @@ sed -n 's/^ *\(R_[A-Za-z0-9_]*\) => "\([^"]*\)",.*/\1 \2/p' "$1" | sort > "$room
 # the texts for numbers without a name
 grep -o '"R_UNKNOWN[A-Z0-9_]*"' "$crates/goblin_reloc_names/src/names.rt" | sort -u > "$room/unknown"
 grep -o '"R_UNKNOWN[A-Z0-9_]*"' "$1" | sort -u > "$room/their_unknown"
-for part in numbers names unknown; do
+for part in numbers rows names unknown; do
     [ -s "$room/$part" ] || { echo "checks/relocation_names.sh: no $part were found"; exit 1; }
     diff "$room/$part" "$room/their_$part" || { echo "checks/relocation_names.sh: the $part differ"; exit 1; }
 done
-echo "checks/relocation_names.sh: $(wc -l < "$room/numbers" | tr -d ' ') numbers, $(wc -l < "$room/names" | tr -d ' ') names and $(wc -l < "$room/unknown" | tr -d ' ') other texts agree"
+echo "checks/relocation_names.sh: $(wc -l < "$room/numbers" | tr -d ' ') numbers and rows, $(wc -l < "$room/names" | tr -d ' ') names and $(wc -l < "$room/unknown" | tr -d ' ') other texts agree"

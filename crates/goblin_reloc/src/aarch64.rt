@@ -4,8 +4,8 @@
 //! which the object is loaded, GOT the address of the global offset table, TP the thread pointer, and
 //! DTP the start of the module's block of thread-local data. Page(x) is x with its low 12 bits cleared.
 //! G(x) is the address of the GOT entry that keeps x: of the symbol's pair of module and offset for
-//! `pair`, of this module's pair for `module`, of the symbol's TLS descriptor for `descriptor`. Unless it
-//! says "not checked", the linker refuses a value that the field doesn't hold.
+//! `pair`, of this module's pair for `module`, of the symbol's TLS descriptor for `descriptor`. Unless
+//! it says "not checked", the linker refuses a value that the field doesn't hold.
 
 /// Nothing is filled in.
 pub const R_AARCH64_NONE: u32 = 0;

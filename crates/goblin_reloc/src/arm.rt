@@ -5,7 +5,8 @@
 //! segment that defines the symbol, GOT the address of the global offset table, GOT(S) that of the
 //! symbol's entry in it, PLT(S) that of the symbol's slot in the procedure linkage table, TP the thread
 //! pointer, and DTP the start of the module's block of thread-local data. A group of bits is what one
-//! arithmetic instruction can add.
+//! arithmetic instruction can add. A pair in the GOT is the module and the offset by which thread-local
+//! data is found.
 
 /// Nothing is filled in.
 pub const R_ARM_NONE: u32 = 0;

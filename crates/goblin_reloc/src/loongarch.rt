@@ -2,8 +2,9 @@
 //!
 //! In the formulas S is the symbol's value, A the addend, P the address of the field, V what the field
 //! held, B the address at which the object is loaded, GOT the address of the global offset table, G the
-//! offset of the symbol's entry in it, TP the thread pointer, and DTP the start of the module's block of
-//! thread-local data. A page has 4,096 bytes. An address has 4 or 8 bytes by the file's class.
+//! offset of the symbol's entry in it, TP the thread pointer, and DTP the start of the module's block
+//! of thread-local data. A page has 4,096 bytes. An address has 4 or 8 bytes by the file's class. A
+//! pair in the GOT is the module and the offset by which thread-local data is found.
 
 /// Nothing is filled in.
 pub const R_LARCH_NONE: u32 = 0;

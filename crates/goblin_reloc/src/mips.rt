@@ -1,10 +1,11 @@
-//! Relocations of MIPS, by the System V ABI's MIPS RISC Processor Supplement ("Relocation Types") and the
-//! "64-bit ELF Object File Specification".
+//! Relocations of MIPS, by the System V ABI's MIPS RISC Processor Supplement ("Relocation Types") and
+//! the "64-bit ELF Object File Specification".
 //!
 //! In the formulas S is the symbol's value, A the addend, P the address of the field, GP the value of
 //! the global pointer, G the offset from GP of the symbol's entry in the global offset table (GOT), TP
 //! the thread pointer, and DTP the start of the module's block of thread-local data, both with the
-//! supplement's bias.
+//! supplement's bias. A pair in the GOT is the module and the offset by which thread-local data is
+//! found.
 
 /// Nothing is filled in.
 pub const R_MIPS_NONE: u32 = 0;

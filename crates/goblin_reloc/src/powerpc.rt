@@ -1,12 +1,14 @@
-//! Relocations of the 32-bit PowerPC, by the System V ABI's PowerPC supplement ("Relocation Types"), its
-//! embedded supplement (`EMB`, `DIAB`, `VLE`) and the supplement for thread-local data.
+//! Relocations of the 32-bit PowerPC, by the System V ABI's PowerPC supplement ("Relocation Types"),
+//! its embedded supplement (`EMB`, `DIAB`, `VLE`) and the supplement for thread-local data.
 //!
 //! In the formulas S is the symbol's value, A the addend, P the address of the field, B the address at
-//! which the object is loaded, G the offset of the symbol's entry in the global offset table (GOT), L the
-//! address of the symbol's slot in the procedure linkage table (PLT), R the symbol's offset in its
+//! which the object is loaded, G the offset of the symbol's entry in the global offset table (GOT), L
+//! the address of the symbol's slot in the procedure linkage table (PLT), R the symbol's offset in its
 //! section, SDA and SDA2 the bases of the small data areas, TP the thread pointer, and DTP the start of
 //! the module's block of thread-local data. The low half of a number is its bits 0 to 15, the high half
 //! its bits 16 to 31; adjusted, it is one more where bit 15 is set, as the low half is read as signed.
+//! A pair in the GOT is the module and the offset by which thread-local data is found. The base of a
+//! symbol is that of its small data area, and a register of its own keeps it.
 
 /// Nothing is filled in.
 pub const R_PPC_NONE: u32 = 0;

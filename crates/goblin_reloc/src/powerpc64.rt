@@ -1,13 +1,15 @@
-//! Relocations of the 64-bit PowerPC, by the Power Architecture "64-Bit ELF V2 ABI" ("Relocation Types").
-//! Where a relocation has the number of the 32-bit one of the same name, it is written as that constant.
+//! Relocations of the 64-bit PowerPC, by the Power Architecture "64-Bit ELF V2 ABI" ("Relocation
+//! Types"). Where a relocation has the number of the 32-bit one of the same name, it is written as that
+//! constant.
 //!
 //! In the formulas S is the symbol's value, A the addend, P the address of the field, B the address at
-//! which the object is loaded, TOC the value of the TOC pointer, G the offset from it of the symbol's GOT
-//! entry, M that of the GOT entry of the symbol's PLT slot, L the address of that slot, R the symbol's
-//! offset in its section, TP the thread pointer, and DTP the start of the module's block of thread-local
-//! data. The low half of a number is its bits 0 to 15, the high half its bits 16 to 31; adjusted, a part
-//! is one more where the part below it is read as negative. A DS form is a load or store whose
-//! displacement has 14 bits, in words.
+//! which the object is loaded, TOC the value of the TOC pointer, G the offset from it of the symbol's
+//! GOT entry, M that of the GOT entry of the symbol's PLT slot, L the address of that slot, R the
+//! symbol's offset in its section, TP the thread pointer, and DTP the start of the module's block of
+//! thread-local data. The low half of a number is its bits 0 to 15, the high half its bits 16 to 31;
+//! adjusted, a part is one more where the part below it is read as negative. A DS form is a load or
+//! store whose displacement has 14 bits, in words. A pair in the GOT is the module and the offset by
+//! which thread-local data is found.
 
 use crate::powerpc;
 

@@ -3,7 +3,8 @@
 //! In the formulas S is the symbol's value, A the addend, P the address of the field, B the address at
 //! which the object is loaded, GOT the address of the global offset table, G the offset of the symbol's
 //! entry in it, L the address of the symbol's slot in the procedure linkage table (PLT), Z the symbol's
-//! size, TP the thread pointer, and DTP the start of the module's block of thread-local data.
+//! size, TP the thread pointer, and DTP the start of the module's block of thread-local data. A pair in
+//! the GOT is the module and the offset by which thread-local data is found.
 
 /// Nothing is filled in.
 pub const R_X86_64_NONE: u32 = 0;

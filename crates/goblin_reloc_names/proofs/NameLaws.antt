@@ -25,14 +25,17 @@ use Rattle.goblin_reloc_names.proofs.Distinct.{is_named, are_apart, named, one_n
 abbrev pub is_sound : Family → Bool
 is_sound family = are_apart (named_rows family) && not (is_named family.unknown (named_rows family))
 
+-- every family is so, by computation over its whole table
 all_sound : list_all (λ entry. is_sound entry.1) machines ≡ true
 unfolding named_rows x86 x86_64 aarch64 arm openrisc mips riscv powerpc powerpc64 loongarch x86_rows x86_64_rows aarch64_rows arm_rows openrisc_rows mips_rows riscv_rows powerpc_rows powerpc64_rows loongarch_rows
 all_sound = refl
 
+-- the family that is found is the first entry's, or that of a later one
 entry_here : (machine : ℕ) (entry : ℕ × Family) (entries : List (ℕ × Family)) (test : Family → Bool) (family : Family) (same : Bool) → test entry.1 ≡ true → (option_map (λ e. e.1) (find (λ e. machine == e.0) entries) ≡ Some family → test family ≡ true) → option_map (λ e. e.1) (cond same (Some entry) (find (λ e. machine == e.0) entries)) ≡ Some family → test family ≡ true
 entry_here machine entry entries test family true here later found = let is : entry.1 ≡ family = cc in ap test (sym is) ∙ here
 entry_here machine entry entries test family false here later found = later found
 
+-- a test that all families pass is passed by the one that is found
 entry_family : (machine : ℕ) (entries : List (ℕ × Family)) (test : Family → Bool) (family : Family) → list_all (λ entry. test entry.1) entries ≡ true → option_map (λ entry. entry.1) (find (λ entry. machine == entry.0) entries) ≡ Some family → test family ≡ true
 entry_family machine [] test family all found = cc
 entry_family machine (entry ∷ entries) test family all found =
@@ -42,6 +45,7 @@ entry_family machine (entry ∷ entries) test family all found =
 sound_family : (machine : ℕ) (family : Family) → family_of machine ≡ Some family → is_sound family ≡ true
 sound_family machine family is = entry_family machine machines is_sound family all_sound is
 
+-- a name that is known is told in place of any other text
 some_of : (found : Option (List ℕ)) (other : List ℕ) → is_some found ≡ true → found ≡ Some (unwrap_or found other)
 some_of None other known = cc
 some_of (Some name) other known = refl
@@ -78,6 +82,7 @@ tells family row = bytes_eq (unwrap_or (name_of family row.0) family.unknown) ro
 abbrev pub tells_each : Family → Bool
 tells_each family = list_all (tells family) (named_rows family)
 
+-- every family does, by computation over its whole table
 all_tell : list_all (λ entry. tells_each entry.1) machines ≡ true
 unfolding named_rows x86 x86_64 aarch64 arm openrisc mips riscv powerpc powerpc64 loongarch x86_rows x86_64_rows aarch64_rows arm_rows openrisc_rows mips_rows riscv_rows powerpc_rows powerpc64_rows loongarch_rows
 all_tell = refl
