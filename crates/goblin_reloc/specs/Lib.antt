@@ -1,0 +1,11 @@
+pub mod Row
+pub mod X86
+pub mod X86_64
+pub mod Aarch64
+pub mod Arm
+pub mod Openrisc
+pub mod Mips
+pub mod Riscv
+pub mod Powerpc
+pub mod Powerpc64
+pub mod Loongarch

@@ -1,0 +1,15 @@
+-- What stands in a table of relocation numbers.
+use Rattle.std.specs.Prelude.{◌≡◌, ℕ, List, map}
+
+-- a relocation: its number and its name in the processor's supplement, and this crate's constant of that name
+pub record Row : Type 0 where
+  pub number : ℕ
+  pub name : List ℕ
+  pub constant : ℕ
+
+abbrev pub row : ℕ → List ℕ → ℕ → Row
+row number name constant = record { number = number; name = name; constant = constant }
+
+-- each constant is the number of its row
+abbrev pub ConstantsAgree : List Row → Type 0
+ConstantsAgree rows = map (λ r. r.constant) rows ≡ map (λ r. r.number) rows

@@ -1,0 +1,27 @@
+//! The law of the constants. The function does nothing; its contract is the law.
+
+ghost use Rattle.goblin_reloc.specs.Row.{ConstantsAgree};
+ghost use Rattle.goblin_reloc.specs.X86.{x86_rows};
+ghost use Rattle.goblin_reloc.specs.X86_64.{x86_64_rows};
+ghost use Rattle.goblin_reloc.specs.Aarch64.{aarch64_rows};
+ghost use Rattle.goblin_reloc.specs.Arm.{arm_rows};
+ghost use Rattle.goblin_reloc.specs.Openrisc.{openrisc_rows};
+ghost use Rattle.goblin_reloc.specs.Mips.{mips_rows};
+ghost use Rattle.goblin_reloc.specs.Riscv.{riscv_rows};
+ghost use Rattle.goblin_reloc.specs.Powerpc.{powerpc_rows};
+ghost use Rattle.goblin_reloc.specs.Powerpc64.{powerpc64_rows};
+ghost use Rattle.goblin_reloc.specs.Loongarch.{loongarch_rows};
+
+/// Each constant is the number that the table of its machine has for its name.
+pub fn constant_laws()
+    ensures x86 { ConstantsAgree x86_rows }
+    ensures x86_64 { ConstantsAgree x86_64_rows }
+    ensures aarch64 { ConstantsAgree aarch64_rows }
+    ensures arm { ConstantsAgree arm_rows }
+    ensures openrisc { ConstantsAgree openrisc_rows }
+    ensures mips { ConstantsAgree mips_rows }
+    ensures riscv { ConstantsAgree riscv_rows }
+    ensures powerpc { ConstantsAgree powerpc_rows }
+    ensures powerpc64 { ConstantsAgree powerpc64_rows }
+    ensures loongarch { ConstantsAgree loongarch_rows }
+{}

@@ -1,0 +1,4 @@
+pub mod Families
+pub mod Names
+pub mod Laws
+pub mod Lookup

@@ -1,0 +1,42 @@
+//! The names of the relocations of the OpenRISC 1000.
+
+use goblin_reloc::openrisc;
+
+/// Each number that has a name, with the text that is told, in the order of the numbers.
+pub(crate) const NAMES: [(u32, &'static str); 35] = [
+    (openrisc::R_OR1K_NONE, "OR1K_NONE"),
+    (openrisc::R_OR1K_32, "OR1K_32"),
+    (openrisc::R_OR1K_16, "OR1K_16"),
+    (openrisc::R_OR1K_8, "OR1K_8"),
+    (openrisc::R_OR1K_LO_16_IN_INSN, "OR1K_LO_16_IN_INSN"),
+    (openrisc::R_OR1K_HI_16_IN_INSN, "OR1K_HI_16_IN_INSN"),
+    (openrisc::R_OR1K_INSN_REL_26, "OR1K_INSN_REL_26"),
+    (openrisc::R_OR1K_GNU_VTENTRY, "OR1K_GNU_VTENTRY"),
+    (openrisc::R_OR1K_GNU_VTINHERIT, "OR1K_GNU_VTINHERIT"),
+    (openrisc::R_OR1K_32_PCREL, "OR1K_32_PCREL"),
+    (openrisc::R_OR1K_16_PCREL, "OR1K_16_PCREL"),
+    (openrisc::R_OR1K_8_PCREL, "OR1K_8_PCREL"),
+    (openrisc::R_OR1K_GOTPC_HI16, "OR1K_GOTPC_HI16"),
+    (openrisc::R_OR1K_GOTPC_LO16, "OR1K_GOTPC_LO16"),
+    (openrisc::R_OR1K_GOT16, "OR1K_GOT16"),
+    (openrisc::R_OR1K_PLT26, "OR1K_PLT26"),
+    (openrisc::R_OR1K_GOTOFF_HI16, "OR1K_GOTOFF_HI16"),
+    (openrisc::R_OR1K_GOTOFF_LO16, "OR1K_GOTOFF_LO16"),
+    (openrisc::R_OR1K_COPY, "OR1K_COPY"),
+    (openrisc::R_OR1K_GLOB_DAT, "OR1K_GLOB_DAT"),
+    (openrisc::R_OR1K_JMP_SLOT, "OR1K_JMP_SLOT"),
+    (openrisc::R_OR1K_RELATIVE, "OR1K_RELATIVE"),
+    (openrisc::R_OR1K_TLS_GD_HI16, "OR1K_TLS_GD_HI16"),
+    (openrisc::R_OR1K_TLS_GD_LO16, "OR1K_TLS_GD_LO16"),
+    (openrisc::R_OR1K_TLS_LDM_HI16, "OR1K_TLS_LDM_HI16"),
+    (openrisc::R_OR1K_TLS_LDM_LO16, "OR1K_TLS_LDM_LO16"),
+    (openrisc::R_OR1K_TLS_LDO_HI16, "OR1K_TLS_LDO_HI16"),
+    (openrisc::R_OR1K_TLS_LDO_LO16, "OR1K_TLS_LDO_LO16"),
+    (openrisc::R_OR1K_TLS_IE_HI16, "OR1K_TLS_IE_HI16"),
+    (openrisc::R_OR1K_TLS_IE_LO16, "OR1K_TLS_IE_LO16"),
+    (openrisc::R_OR1K_TLS_LE_HI16, "OR1K_TLS_LE_HI16"),
+    (openrisc::R_OR1K_TLS_LE_LO16, "OR1K_TLS_LE_LO16"),
+    (openrisc::R_OR1K_TLS_TPOFF, "OR1K_TLS_TPOFF"),
+    (openrisc::R_OR1K_TLS_DTPOFF, "OR1K_TLS_DTPOFF"),
+    (openrisc::R_OR1K_TLS_DTPMOD, "OR1K_TLS_DTPMOD"),
+];

@@ -1,0 +1,42 @@
+use crate::r_to_str;
+
+#[test]
+fn a_number_has_the_name_of_its_machine(rt: HostRuntime) {
+    assert_eq!(rt; r_to_str(1, 62), "X86_64_64");
+    assert_eq!(rt; r_to_str(0, 3), "386_NONE");
+    assert_eq!(rt; r_to_str(1, 21), "R_PPC64_ADDR32");
+    assert_eq!(rt; r_to_str(2, 10), "R_MIPS_32");
+    assert_eq!(rt; r_to_str(13, 40), "ARM_TLS_DESC");
+}
+
+#[test]
+fn a_number_without_a_name_is_unknown(rt: HostRuntime) {
+    assert_eq!(rt; r_to_str(0, 62), "R_UNKNOWN_X86_64");
+    assert_eq!(rt; r_to_str(128, 8), "R_UNKNOWN_MIPS");
+    assert_eq!(rt; r_to_str(35, 92), "R_UNKNOWN_OR1K");
+    assert_eq!(rt; r_to_str(4_294_967_295, 258), "R_UNKNOWN_LOONGARCH");
+    assert_eq!(rt; r_to_str(1, 63), "R_UNKNOWN");
+}
+
+/// How many numbers below 2,000 have a name.
+fn known(machine: u16, unknown: &str) -> usize {
+    (0..2000)
+        .filter(|number| r_to_str(*number, machine) != unknown)
+        .count()
+}
+
+#[test]
+fn as_many_numbers_below_two_thousand_have_names_as_the_tables_have_rows(rt: HostRuntime) {
+    assert_eq!(rt; known(3, "R_UNKNOWN_386"), 42);
+    assert_eq!(rt; known(8, "R_UNKNOWN_MIPS"), 51);
+    assert_eq!(rt; known(10, "R_UNKNOWN_MIPS"), 51);
+    assert_eq!(rt; known(20, "R_UNKNOWN_PPC"), 127);
+    assert_eq!(rt; known(21, "R_UNKNOWN_PPC64"), 125);
+    assert_eq!(rt; known(40, "R_UNKNOWN_ARM"), 123);
+    assert_eq!(rt; known(51, "R_UNKNOWN_MIPS"), 51);
+    assert_eq!(rt; known(62, "R_UNKNOWN_X86_64"), 40);
+    assert_eq!(rt; known(92, "R_UNKNOWN_OR1K"), 35);
+    assert_eq!(rt; known(183, "R_UNKNOWN_AARCH64"), 132);
+    assert_eq!(rt; known(243, "R_UNKNOWN_RISCV"), 63);
+    assert_eq!(rt; known(258, "R_UNKNOWN_LOONGARCH"), 117);
+}
