@@ -1,0 +1,3 @@
+pub mod NextSections
+pub mod RangesLeft
+pub mod FreshRanges

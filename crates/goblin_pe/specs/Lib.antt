@@ -1,0 +1,7 @@
+pub mod HeaderConstants
+pub mod Steps
+pub mod FindOffset
+pub mod SignedRanges
+pub mod SectionOrder
+pub mod NextSection
+pub mod RangesLeft
