@@ -1,3 +1,4 @@
 pub mod NextSections
 pub mod RangesLeft
 pub mod FreshRanges
+pub mod SignedFile

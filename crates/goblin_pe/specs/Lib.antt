@@ -5,3 +5,4 @@ pub mod SignedRanges
 pub mod SectionOrder
 pub mod NextSection
 pub mod RangesLeft
+pub mod SignedFile

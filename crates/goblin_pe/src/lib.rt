@@ -12,6 +12,7 @@ mod rva;
 mod section_bytes;
 mod section_order;
 mod section_table;
+mod signed_file;
 mod steps;
 pub mod subsystem;
 
@@ -19,3 +20,4 @@ pub use authenticode::{ExcludedSections, ExcludedSectionsIter, PE};
 pub use pe_error::{Case, Error};
 pub use rva::find_offset;
 pub use section_table::{DataDirectory, ParseOptions, SectionTable};
+pub use signed_file::signed_file_law;
