@@ -1,3 +1,5 @@
+pub mod NumberBounds
+pub mod Texts
 pub mod NextSections
 pub mod RangesLeft
 pub mod FreshRanges

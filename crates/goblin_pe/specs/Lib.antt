@@ -6,3 +6,6 @@ pub mod SectionOrder
 pub mod NextSection
 pub mod RangesLeft
 pub mod SignedFile
+pub mod ClrConstants
+pub mod Cor20
+pub mod Storage

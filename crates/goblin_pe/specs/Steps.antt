@@ -1,5 +1,5 @@
 -- Readers as steps: the first step that fails gives the refusal.
-use Rattle.std.specs.Prelude.{ℕ, ◌+◌, nat_le, Bool, true, false, List, length, Option, Some, None, Result, Ok, Err, if◌then◌else◌}
+use Rattle.std.specs.Prelude.{◌≡◌, ℕ, ◌+◌, nat_le, Bool, true, false, List, length, Option, Some, None, Result, Ok, Err, if◌then◌else◌}
 use Rattle.byte_core.specs.Number.{bytes_at, number_at}
 use Rattle.goblin_pe.specs.declared.pe_error.Case.{Case}
 use Rattle.goblin_pe.specs.declared.pe_error.Error.{Error}
@@ -10,6 +10,11 @@ infixl 10 ◌>>=◌
 abbrev pub ◌>>=◌ : {A B : Type 0} → Result A Error → (A → Result B Error) → Result B Error
 (Ok x) >>= f = f x
 (Err e) >>= f = Err e
+
+-- an answer whose values are seen in this way is that of a definition
+abbrev pub Gives : {X Y : Type 0} → (X → Y) → Result X Error → Result Y Error → Type 0
+Gives view (Ok x) answer = answer ≡ Ok (view x)
+Gives view (Err e) answer = answer ≡ Err e
 
 -- goes on where a test holds, and else is malformed in this way
 abbrev pub demand : Bool → Case → Result (Unit {0}) Error

@@ -6,6 +6,7 @@
 
 mod authenticode;
 pub mod characteristic;
+pub mod clr;
 pub mod dll_characteristic;
 mod pe_error;
 mod rva;
@@ -17,6 +18,7 @@ mod steps;
 pub mod subsystem;
 
 pub use authenticode::{ExcludedSections, ExcludedSectionsIter, PE};
+pub use clr::{Cor20Header, StorageHeader, StorageSignature, StorageStream};
 pub use pe_error::{Case, Error};
 pub use rva::find_offset;
 pub use section_table::{DataDirectory, ParseOptions, SectionTable};
