@@ -1,5 +1,5 @@
 -- Texts by their places.
-use Rattle.std.proofs.Common.{◌≡◌, ℕ, ◌+◌, ◌-◌, ◌<◌, ◌≤◌, ◌==◌, Bool, true, false, List, [], ◌∷◌, length, take, drop, refl, ap, arith, sym, ◌∙◌, Option, Some, None, Ok, Err, cond}
+use Rattle.std.proofs.Common.{◌≡◌, ℕ, ◌-◌, ◌==◌, Bool, true, false, List, length, take, drop, refl, Option, Ok, Err, cond}
 use Rattle.std.specs.List.{position_from}
 use Rattle.std.specs.Option.{option_map}
 use Rattle.std.specs.Str.{IsUtf8, is_utf8}
@@ -15,7 +15,7 @@ good_text b text same h = rw (is_utf8-from_IsUtf8 b h, same) refl
 
 pub bad_text : (b : List ℕ) → ¬ IsUtf8 b → text_or_bad b ≡ Err (Malformed BadText)
 bad_text b h = bad_step (is_utf8 b) refl
-    where
+  where
     bad_step : (t : Bool) → is_utf8 b ≡ t → (cond t (Ok b) (Err (Malformed BadText))) ≡ Err (Malformed BadText)
     bad_step true e = absurd (h (IsUtf8-from_is_utf8 b e))
     bad_step false e = refl

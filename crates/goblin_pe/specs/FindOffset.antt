@@ -1,8 +1,11 @@
 -- Where in a file the places of its image lie, by Microsoft's PE Format, "Section Table"; the roundings are this project's choice.
-use Rattle.std.specs.Prelude.{ℕ, ◌+◌, ◌-◌, ◌*◌, ◌/◌, ◌==◌, ◌&&◌, nat_le, nat_lt, min, Bool, List, find, Option, Some, None, option_map, if◌then◌else◌}
+use Rattle.std.specs.Prelude.{ℕ, ◌+◌, ◌-◌, ◌*◌, ◌/◌, ◌==◌, ◌&&◌, nat_le, nat_lt, min, Bool, List, find, Option, Some, None, option_map, Result, if◌then◌else◌}
 use Rattle.std.specs.Int.{next_multiple_of, is_power_of_two}
 use Rattle.goblin_pe.specs.declared.section_table.SectionTable.{SectionTable}
 use Rattle.goblin_pe.specs.declared.section_table.ParseOptions.{ParseOptions}
+use Rattle.goblin_pe.specs.declared.pe_error.Case.TheVariants.{NoOffset}
+use Rattle.goblin_pe.specs.declared.pe_error.Error.{Error}
+use Rattle.goblin_pe.specs.Steps.{value_or}
 
 -- how many bytes of a section are in memory: its raw size, but no more than its virtual size in whole pages of 4,096, where one is given
 abbrev pub extent_of : SectionTable → ℕ
@@ -21,3 +24,7 @@ unfoldable pub offset_of : ℕ → List SectionTable → ℕ → ParseOptions �
 offset_of rva sections file_alignment opts =
     if opts.resolve_rva then (if is_power_of_two file_alignment then option_map (place_of rva) (find (is_held rva) sections) else None)
     else Some rva
+
+-- the offset of a relative virtual address, or the refusal that keeps it
+abbrev pub offset_or_none : ℕ → List SectionTable → ℕ → ParseOptions → Result ℕ Error
+offset_or_none rva sections file_alignment opts = value_or (offset_of rva sections file_alignment opts) (NoOffset rva)

@@ -1,8 +1,8 @@
 -- The headers of CLR metadata, by ECMA-335, partition II, "Metadata root" and "Stream header".
-use Rattle.std.specs.Prelude.{◌≡◌, ℕ, ◌+◌, ◌==◌, Bool, true, false, List, length, Result, Ok, Err, Option, Some, None, if◌then◌else◌}
+use Rattle.std.specs.Prelude.{ℕ, ◌+◌, List, length, Result, Ok, Err, if◌then◌else◌}
 use Rattle.std.specs.Int.{next_multiple_of}
 use Rattle.std.specs.Str.{is_utf8}
-use Rattle.byte_core.specs.Number.{bytes_at, number_at, text_at}
+use Rattle.byte_core.specs.Number.{number_at, text_at}
 use Rattle.goblin_pe.specs.declared.clr.storage.StorageSignature.{StorageSignature}
 use Rattle.goblin_pe.specs.declared.clr.storage.StorageHeader.{StorageHeader}
 use Rattle.goblin_pe.specs.declared.clr.storage.StorageStream.{StorageStream}
@@ -40,25 +40,25 @@ text_or_bad text = if is_utf8 text then Ok text else Err (Malformed BadText)
 -- the n bytes at place p as a text
 unfoldable pub sized_text_at : List ℕ → ℕ → ℕ → Result (List ℕ) Error
 sized_text_at b p n = do
-    text ← bytes_or_short b p n
-    text_or_bad text
+  text ← bytes_or_short b p n
+  text_or_bad text
 
 -- the bytes from place p up to the first zero as a text
 unfoldable pub ended_text_at : List ℕ → ℕ → Result (List ℕ) Error
 ended_text_at b p = do
-    text ← value_or (text_at b p (length b)) NoTextEnd
-    text_or_bad text
+  text ← value_or (text_at b p (length b)) NoTextEnd
+  text_or_bad text
 
 -- the storage signature at place p: "Metadata root"
 unfoldable pub storage_signature_at : List ℕ → ℕ → Result SignatureData Error
 storage_signature_at b p = do
-    signature ← number_or_short b p 4
-    major ← number_or_short b (p + 4) 2
-    minor ← number_or_short b (p + 6) 2
-    extra ← number_or_short b (p + 8) 4
-    len ← number_or_short b (p + 12) 4
-    version ← sized_text_at b (p + 16) len
-    Ok (record { signature = signature; major_version = major; minor_version = minor; extra_data = extra; version_len = len; version = version })
+  signature ← number_or_short b p 4
+  major ← number_or_short b (p + 4) 2
+  minor ← number_or_short b (p + 6) 2
+  extra ← number_or_short b (p + 8) 4
+  len ← number_or_short b (p + 12) 4
+  version ← sized_text_at b (p + 16) len
+  Ok (record { signature = signature; major_version = major; minor_version = minor; extra_data = extra; version_len = len; version = version })
 
 -- where a storage signature at place p ends, its version being n bytes long
 abbrev pub signature_end : ℕ → ℕ → ℕ
@@ -71,10 +71,10 @@ storage_header_at b p = within_or_short b p 4 (record { flags = number_at b p 1;
 -- the stream's row at place p, whose name ends before the first zero byte: "Stream header"
 unfoldable pub storage_stream_at : List ℕ → ℕ → Result StreamData Error
 storage_stream_at b p = do
-    offset ← number_or_short b p 4
-    size ← number_or_short b (p + 4) 4
-    name ← ended_text_at b (p + 8)
-    Ok (record { offset = offset; size = size; name = name })
+  offset ← number_or_short b p 4
+  size ← number_or_short b (p + 4) 4
+  name ← ended_text_at b (p + 8)
+  Ok (record { offset = offset; size = size; name = name })
 
 -- where the row behind one at place p begins: behind the name's zero byte, at a multiple of 4
 abbrev pub stream_end : ℕ → List ℕ → ℕ

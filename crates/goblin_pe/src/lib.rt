@@ -18,7 +18,9 @@ mod steps;
 pub mod subsystem;
 
 pub use authenticode::{ExcludedSections, ExcludedSectionsIter, PE};
-pub use clr::{Cor20Header, StorageHeader, StorageSignature, StorageStream};
+pub use clr::{
+    ClrData, ClrSectionIterator, Cor20Header, StorageHeader, StorageSignature, StorageStream,
+};
 pub use pe_error::{Case, Error};
 pub use rva::find_offset;
 pub use section_table::{DataDirectory, ParseOptions, SectionTable};

@@ -4,9 +4,8 @@ ghost use Rattle.std.specs.Prelude.{◌≡◌, ◌≤◌, ◌+◌, ◌^◌, ◌<
 ghost use Rattle.byte_core.specs.Number.{number_at, bytes_at};
 ghost use Rattle.goblin_pe.specs.Steps.{demand, number_or_short, within_or_short};
 
-use byte_core::le_at;
-
 use crate::pe_error::{Case, Error};
+use byte_core::le_at;
 
 /// Refuses the file in this way where the test doesn't hold.
 pub fn demand(holds: bool, case: Case) -> Result<(), Error>

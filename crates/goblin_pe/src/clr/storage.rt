@@ -11,7 +11,8 @@ use crate::steps::{demand_bytes, u8_field, u16_at, u16_field, u32_at};
 
 /// The size of a storage signature without its version.
 const SIGNATURE_SIZE: usize = 16;
-const STORAGE_HEADER_SIZE: usize = 4;
+
+pub const STORAGE_HEADER_SIZE: usize = 4;
 /// The size of what stands before a stream's name.
 const STREAM_NUMBERS_SIZE: usize = 8;
 /// Rows of streams begin at multiples of this.

@@ -1,4 +1,4 @@
-use Rattle.std.proofs.Common.{◌≡◌, ◌≤◌, ◌+◌, ◌^◌, ◌<◌, length, arith}
+use Rattle.std.proofs.Common.{◌≡◌, arith}
 use Rattle.byte_core.specs.Number.{number_at}
 use Rattle.goblin_pe.proofs.NumberBounds.{number_bound}
 use Rattle.goblin_pe.proofs.steps.number_field.Goals as goal

@@ -1,4 +1,4 @@
-use Rattle.std.proofs.Common.{Some, None, refl, ◌∙◌, sym}
+use Rattle.std.proofs.Common.{Some, None, refl}
 use Rattle.goblin_pe.specs.Storage.{ended_text_at}
 use Rattle.goblin_pe.proofs.Texts.{text_behind}
 use Rattle.goblin_pe.proofs.clr.storage.ended_text.Goals as goal
