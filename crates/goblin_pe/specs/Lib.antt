@@ -12,3 +12,6 @@ pub mod Storage
 pub mod Clr
 pub mod Streams
 pub mod StreamsView
+pub mod LoadConfigConstants
+pub mod LoadConfig
+pub mod LoadConfigParts

@@ -1,6 +1,6 @@
 -- Readers as steps: the first step that fails gives the refusal.
 use Rattle.std.specs.Prelude.{◌≡◌, ℕ, ◌+◌, nat_le, Bool, true, false, List, length, Option, Some, None, Result, Ok, Err, if◌then◌else◌}
-use Rattle.byte_core.specs.Number.{bytes_at, number_at}
+use Rattle.byte_core.specs.Number.{bytes_at, number_at, where_inside}
 use Rattle.goblin_pe.specs.declared.pe_error.Case.{Case}
 use Rattle.goblin_pe.specs.declared.pe_error.Error.{Error}
 use Rattle.goblin_pe.specs.declared.pe_error.Error.TheVariants.{Malformed, BufferTooShort}
@@ -37,3 +37,11 @@ number_or_short b p w = within_or_short b p w (number_at b p w)
 -- the n bytes at place p
 abbrev pub bytes_or_short : List ℕ → ℕ → ℕ → Result (List ℕ) Error
 bytes_or_short b p n = within_or_short b p n (bytes_at b p n)
+
+-- how many bytes an address has: 8 in a file of 64 bits, else 4
+abbrev pub address_width : Bool → ℕ
+address_width is_64 = if is_64 then 8 else 4
+
+-- the number of the n bytes at place p, none where they pass the end
+abbrev pub field_at : List ℕ → ℕ → ℕ → Option ℕ
+field_at b p n = where_inside b p n (number_at b p n)

@@ -8,6 +8,7 @@ mod authenticode;
 pub mod characteristic;
 pub mod clr;
 pub mod dll_characteristic;
+pub mod load_config;
 mod pe_error;
 mod rva;
 mod section_bytes;
@@ -21,6 +22,7 @@ pub use authenticode::{ExcludedSections, ExcludedSectionsIter, PE};
 pub use clr::{
     ClrData, ClrSectionIterator, Cor20Header, StorageHeader, StorageSignature, StorageStream,
 };
+pub use load_config::{LoadConfigCodeIntegrity, LoadConfigData, LoadConfigDirectory};
 pub use pe_error::{Case, Error};
 pub use rva::find_offset;
 pub use section_table::{DataDirectory, ParseOptions, SectionTable};

@@ -1,8 +1,8 @@
 //! Steps of readers: numbers and bytes at places, and tests with the cause that they give.
 
-ghost use Rattle.std.specs.Prelude.{◌≡◌, ◌≤◌, ◌+◌, ◌^◌, ◌<◌, length, OnOk};
+ghost use Rattle.std.specs.Prelude.{◌≡◌, nat_le, ◌≤◌, ◌+◌, ◌^◌, ◌<◌, length, OnOk};
 ghost use Rattle.byte_core.specs.Number.{number_at, bytes_at};
-ghost use Rattle.goblin_pe.specs.Steps.{demand, number_or_short, within_or_short};
+ghost use Rattle.goblin_pe.specs.Steps.{demand, number_or_short, within_or_short, field_at, address_width};
 
 use crate::pe_error::{Case, Error};
 use byte_core::le_at;
@@ -23,11 +23,25 @@ pub fn demand_bytes(bytes: &[u8], at: usize, size: usize) -> Result<(), Error>
     ensures answer { result ≡ within_or_short bytes.now at size tt }
     ensures inside { OnOk result (at + size ≤ length bytes.now) }
 {
-    if size <= bytes.len() && at <= bytes.len() - size {
+    if is_inside(bytes, at, size) {
         Ok(())
     } else {
         Err(Error::BufferTooShort)
     }
+}
+
+/// Whether the `size` bytes at `at` lie in the file.
+pub fn is_inside(bytes: &[u8], at: usize, size: usize) -> bool
+    ensures { result ≡ nat_le (at + size) (length bytes.now) }
+{
+    size <= bytes.len() && at <= bytes.len() - size
+}
+
+/// How many bytes an address has.
+pub fn address_width(is_64: bool) -> usize
+    ensures { result ≡ address_width is_64 }
+{
+    if is_64 { 8 } else { 4 }
 }
 
 /// The little-endian number of the `width` bytes at `at`, which lie in the file.
@@ -59,6 +73,26 @@ pub fn u8_field(bytes: &[u8], at: usize) -> u8
     ensures { result ≡ number_at bytes.now at 1 }
 {
     number_field(bytes, at, 1) as u8
+}
+
+/// The number of 4 bytes at `at`, None where they leave the file.
+pub fn u32_if(bytes: &[u8], at: usize) -> Option<u32>
+    ensures { result ≡ field_at bytes.now at 4 }
+{
+    if !is_inside(bytes, at, 4) {
+        return None;
+    }
+    Some(u32_field(bytes, at))
+}
+
+/// The number of 2 bytes at `at`, None where they leave the file.
+pub fn u16_if(bytes: &[u8], at: usize) -> Option<u16>
+    ensures { result ≡ field_at bytes.now at 2 }
+{
+    if !is_inside(bytes, at, 2) {
+        return None;
+    }
+    Some(u16_field(bytes, at))
 }
 
 /// The little-endian number of the `width` bytes at `at`.
