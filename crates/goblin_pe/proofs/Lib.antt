@@ -4,3 +4,4 @@ pub mod NextSections
 pub mod RangesLeft
 pub mod FreshRanges
 pub mod SignedFile
+pub mod Callbacks

@@ -15,3 +15,7 @@ pub mod StreamsView
 pub mod LoadConfigConstants
 pub mod LoadConfig
 pub mod LoadConfigParts
+pub mod TlsConstants
+pub mod Tls
+pub mod AddressMap
+pub mod CallbackSteps

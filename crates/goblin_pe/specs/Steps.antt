@@ -3,7 +3,7 @@ use Rattle.std.specs.Prelude.{◌≡◌, ℕ, ◌+◌, nat_le, Bool, true, false
 use Rattle.byte_core.specs.Number.{bytes_at, number_at, where_inside}
 use Rattle.goblin_pe.specs.declared.pe_error.Case.{Case}
 use Rattle.goblin_pe.specs.declared.pe_error.Error.{Error}
-use Rattle.goblin_pe.specs.declared.pe_error.Error.TheVariants.{Malformed, BufferTooShort}
+use Rattle.goblin_pe.specs.declared.pe_error.Error.TheVariants.{Malformed, BufferTooShort, OutOfMemory}
 
 infixl 10 ◌>>=◌
 -- what a step gives goes on to the steps behind it, and its refusal is the answer
@@ -15,6 +15,13 @@ abbrev pub ◌>>=◌ : {A B : Type 0} → Result A Error → (A → Result B Err
 abbrev pub Gives : {X Y : Type 0} → (X → Y) → Result X Error → Result Y Error → Type 0
 Gives view (Ok x) answer = answer ≡ Ok (view x)
 Gives view (Err e) answer = answer ≡ Err e
+
+-- the same, where want of memory may come at any time
+abbrev pub GivesOrMemory : {X Y : Type 0} → (X → Y) → Result X Error → Result Y Error → Type 0
+GivesOrMemory view (Ok x) answer = answer ≡ Ok (view x)
+GivesOrMemory view (Err OutOfMemory) answer = Unit {0}
+GivesOrMemory view (Err BufferTooShort) answer = answer ≡ Err BufferTooShort
+GivesOrMemory view (Err (Malformed case)) answer = answer ≡ Err (Malformed case)
 
 -- goes on where a test holds, and else is malformed in this way
 abbrev pub demand : Bool → Case → Result (Unit {0}) Error

@@ -17,6 +17,7 @@ mod section_table;
 mod signed_file;
 mod steps;
 pub mod subsystem;
+pub mod tls;
 
 pub use authenticode::{ExcludedSections, ExcludedSectionsIter, PE};
 pub use clr::{
@@ -27,3 +28,4 @@ pub use pe_error::{Case, Error};
 pub use rva::find_offset;
 pub use section_table::{DataDirectory, ParseOptions, SectionTable};
 pub use signed_file::signed_file_law;
+pub use tls::{ImageTlsDirectory, TlsData};
