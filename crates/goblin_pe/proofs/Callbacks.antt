@@ -40,14 +40,14 @@ number_past b is_64 p h = rw (no_numbers is_64 (length b) p h) refl
 
 read_inside : (b : List ℕ) (p w n : ℕ) → number_or_short b p w ≡ Ok n → (p + w ≤ length b) × (number_at b p w ≡ n)
 read_inside b p w n h = read_cases (nat_le (p + w) (length b)) refl h
-    where
+  where
     read_cases : (t : Bool) → nat_le (p + w) (length b) ≡ t → (if t then Ok (number_at b p w) else Err BufferTooShort) ≡ Ok n → (p + w ≤ length b) × (number_at b p w ≡ n)
     read_cases true e h = (grind (arith, e), cc)
     read_cases false e h = absurd (cc)
 
 read_past : (b : List ℕ) (p w : ℕ) (e : Error) → number_or_short b p w ≡ Err e → (length b < p + w) × (BufferTooShort ≡ e)
 read_past b p w e h = past_cases (nat_le (p + w) (length b)) refl h
-    where
+  where
     past_cases : (t : Bool) → nat_le (p + w) (length b) ≡ t → (if t then Ok (number_at b p w) else Err BufferTooShort) ≡ Err e → (length b < p + w) × (BufferTooShort ≡ e)
     past_cases true f h = absurd (cc)
     past_cases false f h = (grind (arith, f), cc)
@@ -62,7 +62,7 @@ step_short m b is_64 p e h =
 -- the first number decides
 pub step_on : (m : Mapping) (b : List ℕ) (is_64 : Bool) (p n : ℕ) → number_or_short b p (address_width is_64) ≡ Ok n
     → callbacks_among m (numbers_behind b (address_width is_64) p)
-        ≡ (if n == 0 then Ok [] else callback_of m n >>= (λ callback. in_front callback (callbacks_among m (numbers_behind b (address_width is_64) (p + address_width is_64)))))
+    ≡ (if n == 0 then Ok [] else callback_of m n >>= (λ callback. in_front callback (callbacks_among m (numbers_behind b (address_width is_64) (p + address_width is_64)))))
 unfolding callbacks_among
 step_on m b is_64 p n h =
     let inside = read_inside b p (address_width is_64) n h in

@@ -77,13 +77,13 @@ load_config_fields b w =
 -- the configuration that the bytes of a directory hold
 abbrev pub load_config_at : List ℕ → Bool → Result LoadConfigDirectory Error
 load_config_at b is_64 = do
-    _ ← demand (nat_le 4 (length b)) TooSmall
-    Ok (load_config_fields b (address_width is_64))
+  _ ← demand (nat_le 4 (length b)) TooSmall
+  Ok (load_config_fields b (address_width is_64))
 
 -- the configuration of the bytes that the directory names
 unfoldable pub load_config_of : List ℕ → DataDirectory → List SectionTable → ℕ → ParseOptions → Bool → Result LoadConfigData Error
 load_config_of b dd sections file_alignment opts is_64 = do
-    place ← offset_or_none dd.virtual_address sections file_alignment opts
-    _ ← demand (nat_le (place + dd.size) (length b)) DirectoryRange
-    directory ← load_config_at (bytes_at b place dd.size) is_64
-    Ok (record { directory = directory })
+  place ← offset_or_none dd.virtual_address sections file_alignment opts
+  _ ← demand (nat_le (place + dd.size) (length b)) DirectoryRange
+  directory ← load_config_at (bytes_at b place dd.size) is_64
+  Ok (record { directory = directory })

@@ -28,8 +28,8 @@ tls_fields_at b p w =
 -- the directory that an entry of the data directory names
 unfoldable pub tls_directory_of : List ℕ → DataDirectory → List SectionTable → ℕ → ParseOptions → Bool → Result ImageTlsDirectory Error
 tls_directory_of b dd sections file_alignment opts is_64 = do
-    place ← offset_or_none dd.virtual_address sections file_alignment opts
-    within_or_short b place (4 * address_width is_64 + 8) (tls_fields_at b place (address_width is_64))
+  place ← offset_or_none dd.virtual_address sections file_alignment opts
+  within_or_short b place (4 * address_width is_64 + 8) (tls_fields_at b place (address_width is_64))
 
 -- how addresses of an image in memory lead to offsets: the image base, the sections, the file alignment and the options
 pub record Mapping : Type 0 where
@@ -41,8 +41,8 @@ pub record Mapping : Type 0 where
 -- the relative virtual address of an address, which isn't below the image base
 abbrev pub rva_of : ℕ → ℕ → Result ℕ Error
 rva_of image_base address = do
-    _ ← demand (nat_le image_base address) (BelowBase address)
-    Ok (address - image_base)
+  _ ← demand (nat_le image_base address) (BelowBase address)
+  Ok (address - image_base)
 
 -- the offset of a relative virtual address
 abbrev pub mapped : Mapping → ℕ → Option ℕ
@@ -81,9 +81,9 @@ numbers_behind b w p = numbers_from b w p ((length b - p) / w)
 -- a callback isn't below the image base and has an offset; the refusal keeps the callback
 unfoldable pub callback_of : Mapping → ℕ → Result ℕ Error
 callback_of m callback = do
-    rva ← rva_of m.image_base callback
-    _ ← value_or (mapped m rva) (NoOffset callback)
-    Ok callback
+  rva ← rva_of m.image_base callback
+  _ ← value_or (mapped m rva) (NoOffset callback)
+  Ok callback
 
 -- a value in front of an answer's
 abbrev pub in_front : ℕ → Result (List ℕ) Error → Result (List ℕ) Error
@@ -117,13 +117,13 @@ tls_view d = record { image_tls_directory = d.image_tls_directory; raw_data = op
 -- the directory, then the raw data, the slot and the callbacks that it names
 unfoldable pub named_by : List ℕ → Mapping → ℕ → ImageTlsDirectory → Result (Option TlsView) Error
 named_by b m w directory = do
-    raw ← raw_data_of b m directory.start_address_of_raw_data directory.end_address_of_raw_data
-    slot ← slot_of b m directory.address_of_index
-    callbacks ← callbacks_of b m w directory.address_of_callbacks
-    Ok (Some (record { image_tls_directory = directory; raw_data = raw; slot = slot; callbacks = callbacks }))
+  raw ← raw_data_of b m directory.start_address_of_raw_data directory.end_address_of_raw_data
+  slot ← slot_of b m directory.address_of_index
+  callbacks ← callbacks_of b m w directory.address_of_callbacks
+  Ok (Some (record { image_tls_directory = directory; raw_data = raw; slot = slot; callbacks = callbacks }))
 
 -- the thread-local data of an image
 unfoldable pub tls_of : List ℕ → ℕ → DataDirectory → List SectionTable → ℕ → ParseOptions → Bool → Result (Option TlsView) Error
 tls_of b image_base dd sections file_alignment opts is_64 = do
-    directory ← tls_directory_of b dd sections file_alignment opts is_64
-    named_by b (record { image_base = image_base; sections = sections; file_alignment = file_alignment; opts = opts }) (address_width is_64) directory
+  directory ← tls_directory_of b dd sections file_alignment opts is_64
+  named_by b (record { image_base = image_base; sections = sections; file_alignment = file_alignment; opts = opts }) (address_width is_64) directory

@@ -229,3 +229,6 @@ fn fill(len: usize) -> Option<&'static [u8]>
     }
     Some(&ZEROS[..count])
 }
+
+#[cfg(test)]
+mod tests;

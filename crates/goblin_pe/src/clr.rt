@@ -174,3 +174,6 @@ impl<'a> ClrData<'a> {
         }
     }
 }
+
+#[cfg(test)]
+mod tests;

@@ -5,12 +5,11 @@ ghost use Rattle.goblin_pe.specs.LoadConfigConstants.{image_guards, load_flags};
 
 mod fields;
 
-use fields::{guard_fields, heap_fields, later_fields, start_fields, table_fields};
-
 use crate::pe_error::{Case, Error};
 use crate::rva::offset_or_none;
 use crate::section_table::{DataDirectory, ParseOptions, SectionTable};
 use crate::steps::{address_width, demand, is_inside};
+use fields::{guard_fields, heap_fields, later_fields, start_fields, table_fields};
 
 /// The image checks targets of calls.
 pub const IMAGE_GUARD_CF_INSTRUMENTED: u32 = 0x0000_0100;
@@ -321,7 +320,14 @@ impl LoadConfigData {
     ) -> Result<Self, Error>
         ensures { result ≡ load_config_of bytes.now dd sections.now file_alignment (record { resolve_rva = true }) is_64 }
     {
-        LoadConfigData::parse_with_opts(bytes, dd, sections, file_alignment, &ParseOptions::default(), is_64)
+        LoadConfigData::parse_with_opts(
+            bytes,
+            dd,
+            sections,
+            file_alignment,
+            &ParseOptions::default(),
+            is_64,
+        )
     }
 
     /// The configuration that the directory names. NoOffset where it has no offset; DirectoryRange where it passes the
@@ -337,10 +343,18 @@ impl LoadConfigData {
     ) -> Result<Self, Error>
         ensures { result ≡ load_config_of bytes.now dd sections.now file_alignment opts.now is_64 }
     {
-        let start = offset_or_none(u64::from(dd.virtual_address), sections, file_alignment, opts)?;
+        let start = offset_or_none(
+            u64::from(dd.virtual_address),
+            sections,
+            file_alignment,
+            opts,
+        )?;
         let size = dd.size as usize;
         demand(is_inside(bytes, start, size), Case::DirectoryRange)?;
         let directory = LoadConfigDirectory::parse(&bytes[start..start + size], is_64)?;
         Ok(LoadConfigData { directory })
     }
 }
+
+#[cfg(test)]
+mod tests;

@@ -85,3 +85,6 @@ fn place_in(section: &SectionTable, rva: usize) -> usize
     let pointer = section.pointer_to_raw_data / POINTER_STEP * POINTER_STEP;
     rva - section.virtual_address as usize + pointer as usize
 }
+
+#[cfg(test)]
+mod tests;

@@ -7,16 +7,13 @@ mod callback_list;
 mod directory;
 mod mapping;
 
-use callback_list::callbacks;
-use mapping::{AddressMap, raw_data, slot};
-
-use std::alloc::Global;
-
 use crate::pe_error::Error;
 use crate::section_table::{DataDirectory, ParseOptions, SectionTable};
 use crate::steps::address_width;
-
+use callback_list::callbacks;
 pub use directory::ImageTlsDirectory;
+use mapping::{AddressMap, raw_data, slot};
+use std::alloc::Global;
 
 /// Raw data stands anywhere.
 pub const TLS_CHARACTERISTICS_ALIGN_1BYTES: u32 = 0x0010_0000;
@@ -99,7 +96,16 @@ impl<'a> TlsData<'a> {
     ) -> Result<Option<TlsData<'a>>, Error>
         ensures { GivesOrMemory (option_map tls_view) result (tls_of bytes.now image_base dd.now sections.now file_alignment (record { resolve_rva = true }) is_64) }
     {
-        TlsData::parse_with_opts(alloc, bytes, image_base, dd, sections, file_alignment, &ParseOptions::default(), is_64)
+        TlsData::parse_with_opts(
+            alloc,
+            bytes,
+            image_base,
+            dd,
+            sections,
+            file_alignment,
+            &ParseOptions::default(),
+            is_64,
+        )
     }
 
     /// The thread-local data that the directory names, always Some where nothing is refused. NoOffset where the directory,
@@ -119,7 +125,14 @@ impl<'a> TlsData<'a> {
     ) -> Result<Option<TlsData<'a>>, Error>
         ensures { GivesOrMemory (option_map tls_view) result (tls_of bytes.now image_base dd.now sections.now file_alignment opts.now is_64) }
     {
-        let directory = ImageTlsDirectory::parse_with_opts(bytes, *dd, sections, file_alignment, opts, is_64)?;
+        let directory = ImageTlsDirectory::parse_with_opts(
+            bytes,
+            *dd,
+            sections,
+            file_alignment,
+            opts,
+            is_64,
+        )?;
         let map = AddressMap {
             image_base,
             sections,
@@ -155,3 +168,6 @@ impl<'a> TlsData<'a> {
         }))
     }
 }
+
+#[cfg(test)]
+mod tests;

@@ -5,10 +5,9 @@ ghost use Rattle.std.specs.Prelude.{◌≡◌, ℕ, ◌≤◌, length};
 ghost use Rattle.goblin_pe.specs.LoadConfig.{code_integrity_at, load_config_fields};
 ghost use Rattle.goblin_pe.specs.LoadConfigParts.{start_part, heap_part, guard_part, table_part, later_part};
 
-use byte_core::le_at;
-
 use crate::load_config::LoadConfigCodeIntegrity;
 use crate::steps::{is_inside, u16_field, u16_if, u32_field, u32_if};
+use byte_core::le_at;
 
 /// The fields at the front, whose places are the same in files of both widths.
 #[derive(Clone, Copy)]

@@ -6,11 +6,10 @@ ghost use Rattle.goblin_pe.specs.Tls.{callbacks_of, callbacks_among, numbers_beh
 ghost use Rattle.goblin_pe.specs.CallbackSteps.{after_step};
 ghost use Rattle.goblin_pe.specs.AddressMap.{map_view};
 
-use std::alloc::Global;
-
 use crate::pe_error::{Case, Error};
 use crate::steps::{address_width, number_at};
 use crate::tls::mapping::AddressMap;
+use std::alloc::Global;
 
 /// The callbacks at an address up to the first zero, where an address is given.
 #[tactic(auto, unfolding(crate::specs::Tls::callbacks_of))]

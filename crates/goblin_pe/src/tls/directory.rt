@@ -35,7 +35,14 @@ impl ImageTlsDirectory {
     ) -> Result<Self, Error>
         ensures { result ≡ tls_directory_of bytes.now dd sections.now file_alignment (record { resolve_rva = true }) is_64 }
     {
-        ImageTlsDirectory::parse_with_opts(bytes, dd, sections, file_alignment, &ParseOptions::default(), is_64)
+        ImageTlsDirectory::parse_with_opts(
+            bytes,
+            dd,
+            sections,
+            file_alignment,
+            &ParseOptions::default(),
+            is_64,
+        )
     }
 
     /// The directory that the entry names. NoOffset where it has no offset; BufferTooShort where it passes the end.
@@ -50,7 +57,12 @@ impl ImageTlsDirectory {
     ) -> Result<Self, Error>
         ensures { result ≡ tls_directory_of bytes.now dd sections.now file_alignment opts.now is_64 }
     {
-        let place = offset_or_none(u64::from(dd.virtual_address), sections, file_alignment, opts)?;
+        let place = offset_or_none(
+            u64::from(dd.virtual_address),
+            sections,
+            file_alignment,
+            opts,
+        )?;
         let width = address_width(is_64);
         demand_bytes(bytes, place, 4 * width + 8)?;
         Ok(directory_fields(bytes, place, width))

@@ -9,7 +9,7 @@ use Rattle.goblin_pe.proofs.tls.callback_list.callbacks_from.Given as goal
 abbrev pub invariant-reading : goal.invariant-reading
 invariant-reading l =
     callbacks_among (map_view l.map) (numbers_behind l.bytes (address_width l.is_64) l.fn.start)
-        ≡ all_in_front l.callbacks.items (callbacks_among (map_view l.map) (numbers_behind l.bytes (address_width l.is_64) l.place))
+    ≡ all_in_front l.callbacks.items (callbacks_among (map_view l.map) (numbers_behind l.bytes (address_width l.is_64) l.place))
 
 abbrev pub decreases-reading : goal.decreases-reading
 decreases-reading l = length l.bytes + 8 - l.place
