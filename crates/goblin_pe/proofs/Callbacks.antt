@@ -1,5 +1,5 @@
 -- Callbacks one at a time.
-use Rattle.std.proofs.Common.{◌≡◌, ℕ, zero, suc, ◌+◌, ◌-◌, ◌*◌, ◌/◌, ◌<◌, ◌≤◌, Bool, true, false, List, [], ◌∷◌, ◌++◌, length, refl, ap, arith, sym, ◌∙◌, append_assoc, append-nil, Option, Some, None, Result, Ok, Err, nat_le, nat_eq, ◌==◌, if◌then◌else◌}
+use Rattle.std.proofs.Common.{◌≡◌, ℕ, suc, ◌+◌, ◌-◌, ◌/◌, ◌<◌, ◌≤◌, Bool, true, false, List, [], ◌∷◌, ◌++◌, length, refl, ap, arith, sym, ◌∙◌, append_assoc, Result, Ok, Err, nat_le, ◌==◌, if◌then◌else◌}
 use Rattle.byte_core.specs.Number.{number_at}
 use Rattle.goblin_pe.specs.declared.pe_error.Error.{Error}
 use Rattle.goblin_pe.specs.declared.pe_error.Error.TheVariants.{BufferTooShort}

@@ -1,5 +1,5 @@
 -- Callbacks one at a time.
-use Rattle.std.specs.Prelude.{ℕ, List, [], ◌∷◌, Option, Some, None, Result, Ok, Err}
+use Rattle.std.specs.Prelude.{ℕ, List, [], Option, Some, None, Result, Ok, Err}
 use Rattle.goblin_pe.specs.declared.pe_error.Error.{Error}
 use Rattle.goblin_pe.specs.Tls.{in_front}
 

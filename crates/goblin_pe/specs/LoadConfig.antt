@@ -1,6 +1,6 @@
 -- The load configuration of an image, by Microsoft's PE Format, "Load Configuration Layout"; that the flags of the first heap
 -- follow the affinity mask, in files of both widths, is this project's choice.
-use Rattle.std.specs.Prelude.{ℕ, ◌+◌, ◌*◌, nat_le, Bool, List, length, Option, Some, None, Result, Ok, Err, if◌then◌else◌}
+use Rattle.std.specs.Prelude.{ℕ, ◌+◌, ◌*◌, nat_le, Bool, List, length, Option, Some, None, Result, Ok, if◌then◌else◌}
 use Rattle.byte_core.specs.Number.{bytes_at, number_at}
 use Rattle.goblin_pe.specs.declared.section_table.SectionTable.{SectionTable}
 use Rattle.goblin_pe.specs.declared.section_table.DataDirectory.{DataDirectory}

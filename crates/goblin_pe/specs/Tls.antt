@@ -1,6 +1,6 @@
 -- The thread-local directory of an image and what it names, by Microsoft's PE Format, "The .tls Section".
-use Rattle.std.specs.Prelude.{◌≡◌, ℕ, zero, suc, ◌+◌, ◌-◌, ◌*◌, ◌/◌, ◌==◌, ◌&&◌, ◌||◌, nat_le, nat_lt, nat_eq, Bool, List, [], ◌∷◌, length, Option, Some, None, Result, Ok, Err, if◌then◌else◌}
-use Rattle.std.specs.Option.{option_copied, option_map, option_and_then}
+use Rattle.std.specs.Prelude.{ℕ, zero, suc, ◌+◌, ◌-◌, ◌*◌, ◌/◌, ◌==◌, ◌&&◌, ◌||◌, nat_le, nat_lt, Bool, List, [], ◌∷◌, length, Option, Some, None, Result, Ok, Err, if◌then◌else◌}
+use Rattle.std.specs.Option.{option_copied, option_and_then}
 use Rattle.byte_core.specs.Number.{bytes_at, number_at}
 use Rattle.goblin_pe.specs.declared.section_table.SectionTable.{SectionTable}
 use Rattle.goblin_pe.specs.declared.section_table.DataDirectory.{DataDirectory}
