@@ -1,5 +1,5 @@
 -- Callbacks one at a time.
-use Rattle.std.proofs.Common.{◌≡◌, ℕ, suc, ◌+◌, ◌-◌, ◌/◌, ◌<◌, ◌≤◌, Bool, true, false, List, [], ◌∷◌, ◌++◌, length, refl, ap, arith, sym, ◌∙◌, append_assoc, Result, Ok, Err, nat_le, ◌==◌, if◌then◌else◌}
+use Rattle.std.proofs.Common.{◌≡◌, ℕ, suc, ◌+◌, ◌-◌, ◌/◌, ◌<◌, ◌≤◌, Bool, true, false, List, [], ◌∷◌, ◌++◌, length, refl, ap, arith, ◌∙◌, Result, Ok, Err, nat_le, ◌==◌, if◌then◌else◌}
 use Rattle.byte_core.specs.Number.{number_at}
 use Rattle.goblin_pe.specs.declared.pe_error.Error.{Error}
 use Rattle.goblin_pe.specs.declared.pe_error.Error.TheVariants.{BufferTooShort}
@@ -10,14 +10,6 @@ use Rattle.goblin_pe.specs.Tls.{Mapping, in_front, numbers_from, numbers_behind,
 abbrev pub all_in_front : List ℕ → Result (List ℕ) Error → Result (List ℕ) Error
 all_in_front xs (Ok ys) = Ok (xs ++ ys)
 all_in_front xs (Err e) = Err e
-
-pub one_more_in_front : (xs : List ℕ) (x : ℕ) (rest : Result (List ℕ) Error) → all_in_front xs (in_front x rest) ≡ all_in_front (xs ++ x ∷ []) rest
-one_more_in_front xs x (Ok ys) = ap (λ zs. Ok zs) (sym (append_assoc xs (x ∷ []) ys))
-one_more_in_front xs x (Err e) = refl
-
-pub none_in_front : (rest : Result (List ℕ) Error) → rest ≡ all_in_front [] rest
-none_in_front (Ok ys) = refl
-none_in_front (Err e) = refl
 
 more_numbers : (is_64 : Bool) (n p : ℕ) → p + address_width is_64 ≤ n → (n - p) / address_width is_64 ≡ suc ((n - (p + address_width is_64)) / address_width is_64)
 more_numbers true n p h = omega (arith, h)

@@ -30,10 +30,6 @@ fill_some len n zeros all e some =
     let test : (n == 0) ≡ false = grind (arith, some) in
     rw (all, same, test, take_same 0 7 n few) refl
 
-pub fill_none : (len : ℕ) → (8 - len % 8) % 8 ≡ 0 → [] ≡ fill_ranges len
-fill_none len e =
-    let same : fill_of len ≡ 0 = fill_is len ∙ e in rw same refl
-
 extra_within : (b : List ℕ) (n hashed total size : ℕ) (c : Bool) → nat_lt total (2 ^ 64) ≡ c → n < 2 ^ 64 → hashed ≡ min total (2 ^ 64 - 1)
     → (if nat_lt hashed n then bytes_between b hashed (n - size) ∷ [] else []) ≡ (if nat_lt total n then bytes_between b total (n - size) ∷ [] else [])
 extra_within b n hashed total size true t fits e = let same : hashed ≡ total = grind (arith, t, e) in rw same refl

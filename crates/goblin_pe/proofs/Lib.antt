@@ -5,3 +5,4 @@ pub mod RangesLeft
 pub mod FreshRanges
 pub mod SignedFile
 pub mod Callbacks
+pub mod LoadConfigFront

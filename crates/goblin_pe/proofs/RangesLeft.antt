@@ -1,8 +1,7 @@
 -- The ranges of sections that are left, and where they lie.
-use Rattle.std.proofs.Common.{◌≡◌, ℕ, zero, suc, ◌+◌, ◌-◌, ◌<◌, ◌≤◌, Bool, true, false, List, [], ◌∷◌, refl, ap, arith, sym, ◌∙◌, nat_lt, nat_le, ◌&&◌, ◌||◌, ◌==◌, Option, Some, None, slice_get, length, cond, map}
+use Rattle.std.proofs.Common.{◌≡◌, ℕ, zero, suc, ◌+◌, ◌-◌, ◌≤◌, Bool, true, false, List, [], ◌∷◌, refl, ap, arith, sym, ◌∙◌, nat_lt, nat_le, ◌&&◌, ◌||◌, ◌==◌, Option, Some, None, slice_get, length, cond, map}
 use Rattle.std.specs.List.{position_from}
 use Rattle.std.proofs.lemmas.Iterator.Adapters.{position_from-zero}
-use Rattle.byte_core.proofs.Lists.{get_within}
 use Rattle.goblin_pe.specs.declared.section_table.SectionTable.{SectionTable}
 use Rattle.goblin_pe.specs.declared.section_order.NumberedSection.{NumberedSection}
 use Rattle.goblin_pe.specs.SignedRanges.{is_filled, is_outside, by_pointer, section_bytes, AreInside}
@@ -21,12 +20,6 @@ no_ranges b p n ss e = rw (left_at p n 0 ss None e) refl
 pub next_ranges : (b : List ℕ) (p n : ℕ) (ss : List SectionTable) (m : NumberedSection) → next_of p n 0 ss ≡ Some m
     → map (section_bytes b) (by_pointer (sections_from p n 0 ss)) ≡ section_bytes b m.section ∷ map (section_bytes b) (by_pointer (sections_from m.section.pointer_to_raw_data (m.number + 1) 0 ss))
 next_ranges b p n ss m e = ap (λ xs. map (section_bytes b) xs) ((left_at p n 0 ss (Some m) e).first)
-
-pub next_within : (p n : ℕ) (ss : List SectionTable) (m : NumberedSection) → next_of p n 0 ss ≡ Some m → m.number < length ss
-next_within p n ss m e =
-    let h = left_at p n 0 ss (Some m) e in
-    let same : m.number - 0 ≡ m.number = omega arith in
-    get_within ss m.number m.section (rw same at h.held)
 
 none_passes : (t : SectionTable → Bool) (at : ℕ) (ss : List SectionTable) (k : ℕ) (s : SectionTable) → position_from t at ss ≡ None → slice_get ss k ≡ Some s → t s ≡ false
 none_passes t at [] zero s h e = absurd (cc)

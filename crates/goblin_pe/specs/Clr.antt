@@ -9,7 +9,7 @@ use Rattle.goblin_pe.specs.declared.clr.ClrData.{ClrData}
 use Rattle.goblin_pe.specs.declared.pe_error.Case.TheVariants.{MetadataRange}
 use Rattle.goblin_pe.specs.declared.pe_error.Error.{Error}
 use Rattle.goblin_pe.specs.Steps.{◌>>=◌, demand, number_or_short}
-use Rattle.goblin_pe.specs.FindOffset.{offset_or_none}
+use Rattle.goblin_pe.specs.FindOffset.{offset_or_refusal}
 use Rattle.goblin_pe.specs.SignedRanges.{bytes_between}
 use Rattle.goblin_pe.specs.Cor20.{cor20_at}
 use Rattle.goblin_pe.specs.Storage.{SignatureData, signature_view, storage_signature_at, signature_end, storage_header_at}
@@ -23,6 +23,7 @@ pub record ClrView : Type 0 where
   pub metadata_data : List ℕ
   pub offset_of_metadata : ℕ
 
+-- CLR data as its fields
 abbrev pub clr_view : ClrData → ClrView
 clr_view d =
     record {
@@ -59,7 +60,7 @@ metadata_at b header p size = do
 -- the header that the directory names, and the metadata that the header names
 unfoldable pub clr_of : List ℕ → DataDirectory → List SectionTable → ℕ → ParseOptions → Result ClrView Error
 clr_of b dd sections file_alignment opts = do
-  place ← offset_or_none dd.virtual_address sections file_alignment opts
+  place ← offset_or_refusal dd.virtual_address sections file_alignment opts
   header ← cor20_at b place
-  start ← offset_or_none header.metadata.virtual_address sections file_alignment opts
+  start ← offset_or_refusal header.metadata.virtual_address sections file_alignment opts
   metadata_at b header start header.metadata.size

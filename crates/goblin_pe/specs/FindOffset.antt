@@ -26,5 +26,5 @@ offset_of rva sections file_alignment opts =
     else Some rva
 
 -- the offset of a relative virtual address, or the refusal that keeps it
-abbrev pub offset_or_none : ℕ → List SectionTable → ℕ → ParseOptions → Result ℕ Error
-offset_or_none rva sections file_alignment opts = value_or (offset_of rva sections file_alignment opts) (NoOffset rva)
+abbrev pub offset_or_refusal : ℕ → List SectionTable → ℕ → ParseOptions → Result ℕ Error
+offset_or_refusal rva sections file_alignment opts = value_or (offset_of rva sections file_alignment opts) (NoOffset rva)

@@ -19,3 +19,4 @@ pub mod TlsConstants
 pub mod Tls
 pub mod AddressMap
 pub mod CallbackSteps
+pub mod LoadConfigFront

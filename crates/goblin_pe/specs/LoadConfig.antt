@@ -11,7 +11,7 @@ use Rattle.goblin_pe.specs.declared.load_config.LoadConfigData.{LoadConfigData}
 use Rattle.goblin_pe.specs.declared.pe_error.Case.TheVariants.{DirectoryRange, TooSmall}
 use Rattle.goblin_pe.specs.declared.pe_error.Error.{Error}
 use Rattle.goblin_pe.specs.Steps.{◌>>=◌, demand, address_width, field_at}
-use Rattle.goblin_pe.specs.FindOffset.{offset_or_none}
+use Rattle.goblin_pe.specs.FindOffset.{offset_or_refusal}
 
 -- the code integrity of the 12 bytes at place p, none where they pass the end
 unfoldable pub code_integrity_at : List ℕ → ℕ → Option LoadConfigCodeIntegrity
@@ -83,7 +83,7 @@ load_config_at b is_64 = do
 -- the configuration of the bytes that the directory names
 unfoldable pub load_config_of : List ℕ → DataDirectory → List SectionTable → ℕ → ParseOptions → Bool → Result LoadConfigData Error
 load_config_of b dd sections file_alignment opts is_64 = do
-  place ← offset_or_none dd.virtual_address sections file_alignment opts
+  place ← offset_or_refusal dd.virtual_address sections file_alignment opts
   _ ← demand (nat_le (place + dd.size) (length b)) DirectoryRange
   directory ← load_config_at (bytes_at b place dd.size) is_64
   Ok (record { directory = directory })

@@ -26,10 +26,12 @@ pub record StreamData : Type 0 where
   pub size : ℕ
   pub name : List ℕ
 
+-- a storage signature as its fields
 abbrev pub signature_view : StorageSignature → SignatureData
 signature_view s =
     record { signature = s.signature; major_version = s.major_version; minor_version = s.minor_version; extra_data = s.extra_data; version_len = s.version_len; version = s.version.now }
 
+-- a stream's row as its fields
 abbrev pub stream_view : StorageStream → StreamData
 stream_view s = record { offset = s.offset; size = s.size; name = s.name.now }
 

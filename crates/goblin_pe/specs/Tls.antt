@@ -11,7 +11,7 @@ use Rattle.goblin_pe.specs.declared.pe_error.Case.TheVariants.{NoOffset, TlsOrde
 use Rattle.goblin_pe.specs.declared.pe_error.Error.{Error}
 use Rattle.goblin_pe.specs.declared.pe_error.Error.TheVariants.{BufferTooShort}
 use Rattle.goblin_pe.specs.Steps.{◌>>=◌, demand, value_or, within_or_short, address_width, field_at}
-use Rattle.goblin_pe.specs.FindOffset.{offset_of, offset_or_none}
+use Rattle.goblin_pe.specs.FindOffset.{offset_of, offset_or_refusal}
 
 -- the fields of a directory at place p, where addresses have w bytes: "The TLS Directory"
 unfoldable pub tls_fields_at : List ℕ → ℕ → ℕ → ImageTlsDirectory
@@ -28,7 +28,7 @@ tls_fields_at b p w =
 -- the directory that an entry of the data directory names
 unfoldable pub tls_directory_of : List ℕ → DataDirectory → List SectionTable → ℕ → ParseOptions → Bool → Result ImageTlsDirectory Error
 tls_directory_of b dd sections file_alignment opts is_64 = do
-  place ← offset_or_none dd.virtual_address sections file_alignment opts
+  place ← offset_or_refusal dd.virtual_address sections file_alignment opts
   within_or_short b place (4 * address_width is_64 + 8) (tls_fields_at b place (address_width is_64))
 
 -- how addresses of an image in memory lead to offsets: the image base, the sections, the file alignment and the options
@@ -111,6 +111,7 @@ pub record TlsView : Type 0 where
   pub slot : Option ℕ
   pub callbacks : List ℕ
 
+-- thread-local data as its fields
 abbrev pub tls_view : TlsData → TlsView
 tls_view d = record { image_tls_directory = d.image_tls_directory; raw_data = option_copied d.raw_data; slot = d.slot; callbacks = d.callbacks.items }
 

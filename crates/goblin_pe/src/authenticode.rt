@@ -40,6 +40,7 @@ pub struct PE<'a> {
 }
 
 impl<'a> PE<'a> {
+    /// A file of these bytes and sections.
     pub fn new(
         bytes: &'a [u8],
         sections: &'a [SectionTable],
@@ -142,6 +143,7 @@ fn whole(bytes: &[u8]) -> ExcludedSectionsIter<'_>
     }
 }
 
+/// The ranges where places are to be left out, or the first cause against them.
 #[tactic(auto, unfolding(crate::specs::SignedRanges::checked_ranges))]
 fn checked<'s>(
     bytes: &'s [u8],
@@ -160,6 +162,7 @@ fn checked<'s>(
     Ok(ranges(bytes, sections, excluded, hashed))
 }
 
+/// Whether checksum, certificate entry and the headers' end stand in order inside the file.
 fn are_in_order(excluded: &ExcludedSections, len: usize) -> bool
     ensures { result ≡ are_in_order excluded.now len }
 {
@@ -172,6 +175,7 @@ fn are_in_order(excluded: &ExcludedSections, len: usize) -> bool
         && excluded.end_image_header <= len
 }
 
+/// Whether the certificates behind the bytes hashed end inside the file.
 fn are_certificates_inside(hashed: usize, size: usize, len: usize) -> bool
     ensures { result ≡ (nat_le len hashed || nat_le (hashed + size) len) }
 {

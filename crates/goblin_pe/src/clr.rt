@@ -9,7 +9,7 @@ mod storage;
 mod streams;
 
 use crate::pe_error::Error;
-use crate::rva::offset_or_none;
+use crate::rva::offset_or_refusal;
 use crate::section_table::{DataDirectory, ParseOptions, SectionTable};
 pub use cor20_header::Cor20Header;
 use metadata_root::metadata_at;
@@ -131,7 +131,7 @@ impl<'a> ClrData<'a> {
     ) -> Result<ClrData<'a>, Error>
         ensures { Gives clr_view result (clr_of bytes.now dd.now sections.now file_alignment opts.now) }
     {
-        let offset = offset_or_none(
+        let offset = offset_or_refusal(
             u64::from(dd.virtual_address),
             sections,
             file_alignment,
@@ -139,7 +139,7 @@ impl<'a> ClrData<'a> {
         )?;
         let header = Cor20Header::parse(bytes, offset)?;
         let address = u64::from(header.metadata.virtual_address);
-        let start = offset_or_none(address, sections, file_alignment, opts)?;
+        let start = offset_or_refusal(address, sections, file_alignment, opts)?;
         metadata_at(bytes, header, start, header.metadata.size as usize)
     }
 

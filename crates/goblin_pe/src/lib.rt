@@ -23,7 +23,9 @@ pub use authenticode::{ExcludedSections, ExcludedSectionsIter, PE};
 pub use clr::{
     ClrData, ClrSectionIterator, Cor20Header, StorageHeader, StorageSignature, StorageStream,
 };
-pub use load_config::{LoadConfigCodeIntegrity, LoadConfigData, LoadConfigDirectory};
+pub use load_config::{
+    LoadConfigCodeIntegrity, LoadConfigData, LoadConfigDirectory, load_config_law,
+};
 pub use pe_error::{Case, Error};
 pub use rva::find_offset;
 pub use section_table::{DataDirectory, ParseOptions, SectionTable};

@@ -1,12 +1,14 @@
 //! The load configuration: Microsoft's PE Format, "The Load Configuration Structure (Image Only)".
 
-ghost use Rattle.std.specs.Prelude.{◌≡◌, [], ◌∷◌};
+ghost use Rattle.std.specs.Prelude.{◌≡◌, ℕ, List, [], ◌∷◌};
+ghost use Rattle.goblin_pe.specs.LoadConfig.{load_config_fields};
+ghost use Rattle.goblin_pe.specs.LoadConfigFront.{are_there, IsFront};
 ghost use Rattle.goblin_pe.specs.LoadConfigConstants.{image_guards, load_flags};
 
 mod fields;
 
 use crate::pe_error::{Case, Error};
-use crate::rva::offset_or_none;
+use crate::rva::offset_or_refusal;
 use crate::section_table::{DataDirectory, ParseOptions, SectionTable};
 use crate::steps::{address_width, demand, is_inside};
 use fields::{guard_fields, heap_fields, later_fields, start_fields, table_fields};
@@ -114,6 +116,11 @@ pub const LOAD_LIBRARY_OS_INTEGRITY_CONTINUITY: u32 = 0x0000_8000;
 pub fn load_config_values()
     ensures guards { IMAGE_GUARD_CF_INSTRUMENTED ∷ IMAGE_GUARD_CFW_INSTRUMENTED ∷ IMAGE_GUARD_CF_FUNCTION_TABLE_PRESENT ∷ IMAGE_GUARD_SECURITY_COOKIE_UNUSED ∷ IMAGE_GUARD_PROTECT_DELAYLOAD_IAT ∷ IMAGE_GUARD_DELAYLOAD_IAT_IN_ITS_OWN_SECTION ∷ IMAGE_GUARD_CF_EXPORT_SUPPRESSION_INFO_PRESENT ∷ IMAGE_GUARD_CF_ENABLE_EXPORT_SUPPRESSION ∷ IMAGE_GUARD_CF_LONGJUMP_TABLE_PRESENT ∷ IMAGE_GUARD_RF_INSTRUMENTED ∷ IMAGE_GUARD_RF_ENABLE ∷ IMAGE_GUARD_RF_STRICT ∷ IMAGE_GUARD_RETPOLINE_PRESENT ∷ IMAGE_GUARD_EH_CONTINUATION_TABLE_PRESENT ∷ IMAGE_GUARD_XFG_ENABLED ∷ IMAGE_GUARD_CASTGUARD_PRESENT ∷ IMAGE_GUARD_MEMCPY_PRESENT ∷ [] ≡ image_guards }
     ensures flags { DONT_RESOLVE_DLL_REFERENCES ∷ LOAD_LIBRARY_AS_DATAFILE ∷ LOAD_PACKAGED_LIBRARY ∷ LOAD_WITH_ALTERED_SEARCH_PATH ∷ LOAD_IGNORE_CODE_AUTHZ_LEVEL ∷ LOAD_LIBRARY_AS_IMAGE_RESOURCE ∷ LOAD_LIBRARY_AS_DATAFILE_EXCLUSIVE ∷ LOAD_LIBRARY_REQUIRE_SIGNED_TARGET ∷ LOAD_LIBRARY_SEARCH_DLL_LOAD_DIR ∷ LOAD_LIBRARY_SEARCH_APPLICATION_DIR ∷ LOAD_LIBRARY_SEARCH_USER_DIRS ∷ LOAD_LIBRARY_SEARCH_SYSTEM32 ∷ LOAD_LIBRARY_SEARCH_DEFAULT_DIRS ∷ LOAD_LIBRARY_SAFE_CURRENT_DIRS ∷ LOAD_LIBRARY_SEARCH_SYSTEM32_NO_FORWARDER ∷ LOAD_LIBRARY_OS_INTEGRITY_CONTINUITY ∷ [] ≡ load_flags }
+{}
+
+/// From the first field on that the bytes are too short for, a load configuration has none.
+pub fn load_config_law()
+    ensures { (b : List ℕ) (w : ℕ) → IsFront (are_there (load_config_fields b w)) }
 {}
 
 /// How the code of an image is checked against a catalogue.
@@ -343,7 +350,7 @@ impl LoadConfigData {
     ) -> Result<Self, Error>
         ensures { result ≡ load_config_of bytes.now dd sections.now file_alignment opts.now is_64 }
     {
-        let start = offset_or_none(
+        let start = offset_or_refusal(
             u64::from(dd.virtual_address),
             sections,
             file_alignment,

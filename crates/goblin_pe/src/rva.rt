@@ -2,7 +2,7 @@
 
 ghost use Rattle.std.specs.Prelude.{◌≡◌, find, IfSome, IsTrue};
 ghost use Rattle.std.specs.Option.{option_copied};
-ghost use Rattle.goblin_pe.specs.FindOffset.{offset_of, offset_or_none, extent_of, is_held, place_of};
+ghost use Rattle.goblin_pe.specs.FindOffset.{offset_of, offset_or_refusal, extent_of, is_held, place_of};
 
 use crate::pe_error::{Case, Error};
 use crate::section_table::{ParseOptions, SectionTable};
@@ -36,13 +36,13 @@ pub fn find_offset(
 }
 
 /// The offset in the file of a relative virtual address, or the refusal that keeps it.
-pub fn offset_or_none(
+pub fn offset_or_refusal(
     rva: u64,
     sections: &[SectionTable],
     file_alignment: u32,
     opts: &ParseOptions,
 ) -> Result<usize, Error>
-    ensures { result ≡ offset_or_none rva sections.now file_alignment opts.now }
+    ensures { result ≡ offset_or_refusal rva sections.now file_alignment opts.now }
 {
     match find_offset(rva as usize, sections, file_alignment, opts) {
         Some(offset) => Ok(offset),

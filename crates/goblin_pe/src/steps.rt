@@ -54,6 +54,7 @@ pub fn number_field(bytes: &[u8], at: usize, width: usize) -> u64
     le_at(bytes, at, width).unwrap()
 }
 
+/// The number of the 4 bytes at `at`, which lie in the file.
 pub fn u32_field(bytes: &[u8], at: usize) -> u32
     requires { at + 4 ≤ length bytes.now }
     ensures { result ≡ number_at bytes.now at 4 }
@@ -61,6 +62,7 @@ pub fn u32_field(bytes: &[u8], at: usize) -> u32
     number_field(bytes, at, 4) as u32
 }
 
+/// The number of the 2 bytes at `at`, which lie in the file.
 pub fn u16_field(bytes: &[u8], at: usize) -> u16
     requires { at + 2 ≤ length bytes.now }
     ensures { result ≡ number_at bytes.now at 2 }
@@ -68,6 +70,7 @@ pub fn u16_field(bytes: &[u8], at: usize) -> u16
     number_field(bytes, at, 2) as u16
 }
 
+/// The byte at `at`, which lies in the file.
 pub fn u8_field(bytes: &[u8], at: usize) -> u8
     requires { at + 1 ≤ length bytes.now }
     ensures { result ≡ number_at bytes.now at 1 }
@@ -105,6 +108,7 @@ pub fn number_at(bytes: &[u8], at: usize, width: usize) -> Result<u64, Error>
     Ok(number_field(bytes, at, width))
 }
 
+/// The number of the 4 bytes at `at`.
 pub fn u32_at(bytes: &[u8], at: usize) -> Result<u32, Error>
     ensures number { result ≡ number_or_short bytes.now at 4 }
     ensures inside { OnOk result (at + 4 ≤ length bytes.now) }
@@ -113,6 +117,7 @@ pub fn u32_at(bytes: &[u8], at: usize) -> Result<u32, Error>
     Ok(u32_field(bytes, at))
 }
 
+/// The number of the 2 bytes at `at`.
 pub fn u16_at(bytes: &[u8], at: usize) -> Result<u16, Error>
     ensures number { result ≡ number_or_short bytes.now at 2 }
     ensures inside { OnOk result (at + 2 ≤ length bytes.now) }

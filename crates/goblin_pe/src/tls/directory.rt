@@ -4,7 +4,7 @@ ghost use Rattle.std.specs.Prelude.{◌≡◌, ◌≤◌, ◌+◌, ◌*◌, leng
 ghost use Rattle.goblin_pe.specs.Tls.{tls_fields_at};
 
 use crate::pe_error::Error;
-use crate::rva::offset_or_none;
+use crate::rva::offset_or_refusal;
 use crate::section_table::{DataDirectory, ParseOptions, SectionTable};
 use crate::steps::{address_width, demand_bytes, number_field, u32_field};
 
@@ -57,7 +57,7 @@ impl ImageTlsDirectory {
     ) -> Result<Self, Error>
         ensures { result ≡ tls_directory_of bytes.now dd sections.now file_alignment opts.now is_64 }
     {
-        let place = offset_or_none(
+        let place = offset_or_refusal(
             u64::from(dd.virtual_address),
             sections,
             file_alignment,
