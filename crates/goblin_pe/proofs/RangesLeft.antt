@@ -1,0 +1,51 @@
+-- The ranges of sections that are left, and where they lie.
+use Rattle.std.proofs.Common.{◌≡◌, ℕ, zero, suc, ◌+◌, ◌-◌, ◌≤◌, Bool, true, false, List, [], ◌∷◌, refl, ap, arith, sym, ◌∙◌, nat_lt, nat_le, ◌&&◌, ◌||◌, ◌==◌, Option, Some, None, slice_get, length, cond, map}
+use Rattle.std.specs.List.{position_from}
+use Rattle.std.proofs.lemmas.Iterator.Adapters.{position_from-zero}
+use Rattle.goblin_pe.specs.declared.section_table.SectionTable.{SectionTable}
+use Rattle.goblin_pe.specs.declared.section_order.NumberedSection.{NumberedSection}
+use Rattle.goblin_pe.specs.SignedRanges.{is_filled, is_outside, by_pointer, section_bytes, AreInside}
+use Rattle.goblin_pe.specs.SectionOrder.{sections_from}
+use Rattle.goblin_pe.specs.NextSection.{next_of}
+use Rattle.goblin_pe.proofs.NextSections.{Left, left_next}
+
+-- what is left where the next section is known
+left_at : (p n at : ℕ) (ss : List SectionTable) (o : Option NumberedSection) → next_of p n at ss ≡ o → Left p n at ss o
+left_at p n at ss o e = rw e at (left_next p n at ss)
+
+pub no_ranges : (b : List ℕ) (p n : ℕ) (ss : List SectionTable) → next_of p n 0 ss ≡ None → map (section_bytes b) (by_pointer (sections_from p n 0 ss)) ≡ []
+unfolding by_pointer
+no_ranges b p n ss e = rw (left_at p n 0 ss None e) refl
+
+pub next_ranges : (b : List ℕ) (p n : ℕ) (ss : List SectionTable) (m : NumberedSection) → next_of p n 0 ss ≡ Some m
+    → map (section_bytes b) (by_pointer (sections_from p n 0 ss)) ≡ section_bytes b m.section ∷ map (section_bytes b) (by_pointer (sections_from m.section.pointer_to_raw_data (m.number + 1) 0 ss))
+next_ranges b p n ss m e = ap (λ xs. map (section_bytes b) xs) ((left_at p n 0 ss (Some m) e).first)
+
+none_passes : (t : SectionTable → Bool) (at : ℕ) (ss : List SectionTable) (k : ℕ) (s : SectionTable) → position_from t at ss ≡ None → slice_get ss k ≡ Some s → t s ≡ false
+none_passes t at [] zero s h e = absurd (cc)
+none_passes t at [] (suc k) s h e = absurd (cc)
+none_passes t at (x ∷ ss) zero s h e = let same : x ≡ s = cc in rw (← same) (passes_first (t x) at (position_from t (at + 1) ss) h)
+  where
+    passes_first : (b : Bool) (at : ℕ) (o : Option ℕ) → cond b (Some at) o ≡ None → b ≡ false
+    passes_first true at o h = absurd (cc)
+    passes_first false at o h = refl
+none_passes t at (x ∷ ss) (suc k) s h e = none_passes t (at + 1) ss k s (passes_rest (t x) at (position_from t (at + 1) ss) h) e
+  where
+    passes_rest : (b : Bool) (at : ℕ) (o : Option ℕ) → cond b (Some at) o ≡ None → o ≡ None
+    passes_rest true at o h = absurd (cc)
+    passes_rest false at o h = h
+
+filled_inside : (f : Bool) (n end : ℕ) → f ≡ true → (f && nat_lt n end) ≡ false → end ≤ n
+filled_inside f n end filled h = grind (arith, filled, h)
+
+from_filled : (f : Bool) (g : Bool) → (f && g) ≡ true → f ≡ true
+from_filled true g h = refl
+from_filled false g h = absurd (cc)
+
+pub next_inside : (b : List ℕ) (p n : ℕ) (ss : List SectionTable) (m : NumberedSection) → AreInside b ss → next_of p n 0 ss ≡ Some m → m.section.pointer_to_raw_data + m.section.size_of_raw_data ≤ length b
+next_inside b p n ss m inside e =
+    let h = left_at p n 0 ss (Some m) e in
+    let none = sym (position_from-zero (is_outside (length b)) ss) ∙ inside in
+    filled_inside (is_filled m.section) (length b) (m.section.pointer_to_raw_data + m.section.size_of_raw_data)
+    (from_filled (is_filled m.section) (nat_lt p m.section.pointer_to_raw_data || (p == m.section.pointer_to_raw_data && nat_le n m.number)) h.from)
+    (none_passes (is_outside (length b)) 0 ss (m.number - 0) m.section none h.held)

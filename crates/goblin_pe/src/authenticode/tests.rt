@@ -1,0 +1,81 @@
+//! The ranges of small files.
+
+use super::{ExcludedSections, PE};
+use crate::pe_error::{Case, Error};
+use crate::section_table::SectionTable;
+use std::test::Fail;
+
+fn section(pointer_to_raw_data: u32, size_of_raw_data: u32) -> SectionTable {
+    SectionTable {
+        name: [0; 8],
+        virtual_size: 0,
+        virtual_address: 0,
+        size_of_raw_data,
+        pointer_to_raw_data,
+        characteristics: 0,
+    }
+}
+
+fn places(certificate_table_size: usize) -> ExcludedSections {
+    ExcludedSections {
+        checksum: 8..12,
+        datadir_entry_certtable: 16..24,
+        certificate_table_size,
+        end_image_header: 32,
+    }
+}
+
+/// Bytes that are their own places.
+#[rattlefmt::skip]
+static BYTES: [u8; 61] = [
+    0, 1, 2, 3, 4, 5, 6, 7, 8, 9, 10, 11, 12, 13, 14, 15,
+    16, 17, 18, 19, 20, 21, 22, 23, 24, 25, 26, 27, 28, 29, 30, 31,
+    32, 33, 34, 35, 36, 37, 38, 39, 40, 41, 42, 43, 44, 45, 46, 47,
+    48, 49, 50, 51, 52, 53, 54, 55, 56, 57, 58, 59, 60,
+];
+
+#[test]
+fn a_file_of_61_bytes_has_seven_ranges_of_47_bytes(rt: HostRuntime) -> Result<(), Fail> {
+    let sections = [section(44, 12), section(32, 12)];
+    let pe = PE::new(&BYTES, &sections, Some(places(5)));
+    let mut ranges = pe.authenticode_ranges()?;
+    assert_eq!(rt; ranges.next(), Some(&BYTES[0..8]));
+    assert_eq!(rt; ranges.next(), Some(&BYTES[12..16]));
+    assert_eq!(rt; ranges.next(), Some(&BYTES[24..32]));
+    assert_eq!(rt; ranges.next(), Some(&BYTES[32..44]));
+    assert_eq!(rt; ranges.next(), Some(&BYTES[44..56]));
+    assert_eq!(rt; ranges.next(), Some(&BYTES[56..56]));
+    assert_eq!(rt; ranges.next(), Some([0, 0, 0].as_slice()));
+    assert_eq!(rt; ranges.next(), None);
+    Ok(())
+}
+
+#[test]
+fn the_first_cause_refuses_a_file(rt: HostRuntime) {
+    let outside = [section(44, 12), section(50, 12)];
+    let short = PE::new(&BYTES[..31], &outside, Some(places(5)));
+    assert_eq!(rt;
+        short.authenticode_ranges().err(),
+        Some(Error::Malformed(Case::HeaderPlaces))
+    );
+    let far = PE::new(&BYTES, &outside, Some(places(99)));
+    assert_eq!(rt;
+        far.authenticode_ranges().err(),
+        Some(Error::Malformed(Case::SectionRange(1)))
+    );
+    let long = PE::new(&BYTES, &[], Some(places(30)));
+    assert_eq!(rt;
+        long.authenticode_ranges().err(),
+        Some(Error::Malformed(Case::CertificateRange))
+    );
+}
+
+#[test]
+fn a_file_without_known_places_is_one_range(rt: HostRuntime) -> Result<(), Fail> {
+    let sections = [section(900, 12)];
+    let pe = PE::new(b"abc", &sections, None);
+    let mut ranges = pe.authenticode_ranges()?;
+    assert_eq!(rt; ranges.next(), Some(b"abc".as_slice()));
+    assert_eq!(rt; ranges.next(), None);
+    Ok(())
+}

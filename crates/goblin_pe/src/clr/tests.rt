@@ -1,0 +1,55 @@
+//! The CLR data of 128 bytes with one stream.
+
+use super::{ClrData, ClrSectionIterator};
+use crate::pe_error::{Case, Error};
+use crate::section_table::{DataDirectory, ParseOptions};
+use std::test::Fail;
+
+/// A header at 0 that names 56 bytes of metadata at 72, and in them one stream `#GUID` of 16 bytes.
+#[rattlefmt::skip]
+static IMAGE: [u8; 128] = [
+    72, 0, 0, 0, 2, 0, 5, 0, 72, 0, 0, 0, 56, 0, 0, 0, 1, 0, 0, 0, 0, 0, 0, 0,
+    0, 0, 0, 0, 0, 0, 0, 0, 0, 0, 0, 0, 0, 0, 0, 0, 0, 0, 0, 0, 0, 0, 0, 0,
+    0, 0, 0, 0, 0, 0, 0, 0, 0, 0, 0, 0, 0, 0, 0, 0, 0, 0, 0, 0, 0, 0, 0, 0,
+    0x42, 0x53, 0x4a, 0x42, 1, 0, 1, 0, 0, 0, 0, 0, 4, 0, 0, 0, 0x76, 0x34, 0, 0,
+    0, 0, 1, 0, 40, 0, 0, 0, 16, 0, 0, 0, 0x23, 0x47, 0x55, 0x49, 0x44, 0, 0, 0,
+    1, 2, 3, 4, 5, 6, 7, 8, 9, 10, 11, 12, 13, 14, 15, 16,
+];
+
+fn parse(bytes: &[u8]) -> Result<ClrData<'_>, Error> {
+    let plain = ParseOptions { resolve_rva: false };
+    ClrData::parse_with_opts(bytes, &DataDirectory::default(), &[], 512, &plain)
+}
+
+#[test]
+fn the_metadata_has_one_stream_that_identifies_the_module(rt: HostRuntime) -> Result<(), Fail> {
+    let clr = parse(&IMAGE)?;
+    assert!(rt;
+        clr.is_valid() && clr.cor20_header.is_cb_correct() && clr.cor20_header.is_il_only()
+    );
+    assert_eq!(rt; clr.metadata_header.version, "v4\0\0");
+    assert_eq!(rt; clr.offset_of_metadata, 24);
+    let mut streams = clr.sections();
+    assert_eq!(rt; ClrSectionIterator::count(&streams), 1);
+    assert_eq!(rt; streams.size_hint(), (0, Some(1)));
+    match streams.next() {
+        Some(Ok(stream)) => assert_eq!(rt;
+            (stream.name, stream.offset, stream.size),
+            ("#GUID", 40, 16)
+        ),
+        _ => assert!(rt; false),
+    }
+    assert!(rt; streams.next().is_none());
+    assert_eq!(rt; clr.mvid()?, Some(&IMAGE[112..]));
+    Ok(())
+}
+
+#[test]
+fn a_cut_file_is_refused_by_the_first_step_that_fails(rt: HostRuntime) {
+    assert_eq!(rt; parse(&IMAGE[..71]).err(), Some(Error::BufferTooShort));
+    assert_eq!(rt; parse(&IMAGE[..75]).err(), Some(Error::BufferTooShort));
+    assert_eq!(rt;
+        parse(&IMAGE[..127]).err(),
+        Some(Error::Malformed(Case::MetadataRange))
+    );
+}

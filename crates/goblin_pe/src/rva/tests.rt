@@ -1,0 +1,36 @@
+//! Offsets of addresses in one section.
+
+use super::find_offset;
+use crate::section_table::{ParseOptions, SectionTable};
+
+fn one_section() -> [SectionTable; 1] {
+    [SectionTable {
+        name: [0; 8],
+        virtual_size: 4097,
+        virtual_address: 4096,
+        size_of_raw_data: 12_288,
+        pointer_to_raw_data: 1000,
+        characteristics: 0,
+    }]
+}
+
+#[test]
+fn the_last_byte_of_two_pages_has_an_offset_and_the_next_has_none(rt: HostRuntime) {
+    let options = ParseOptions::default();
+    assert_eq!(rt;
+        find_offset(12_287, &one_section(), 512, &options),
+        Some(8703)
+    );
+    assert_eq!(rt; find_offset(12_288, &one_section(), 512, &options), None);
+}
+
+#[test]
+fn an_alignment_that_is_no_power_of_two_gives_no_offset(rt: HostRuntime) {
+    let resolved = ParseOptions { resolve_rva: true };
+    let plain = ParseOptions { resolve_rva: false };
+    assert_eq!(rt; find_offset(12_287, &one_section(), 500, &resolved), None);
+    assert_eq!(rt;
+        find_offset(12_287, &one_section(), 500, &plain),
+        Some(12_287)
+    );
+}
