@@ -1,6 +1,8 @@
 use crate::{
     AbiParam, Architecture, ArgumentExtension, ArgumentPurpose, BinaryFormat, CallConv,
-    Environment, KnownSymbol, LibCall, Reloc, Signature, System, TargetIsa, Triple, ValueType,
+    Environment, ExtFuncData, ExternalName, FuncRef, Function, GlobalValue, GlobalValueData,
+    KnownSymbol, LibCall, MachLabel, Reloc, SigRef, Signature, System, TargetIsa, Triple,
+    UserExternalName, ValueType,
 };
 use std::test::Fail;
 
@@ -100,5 +102,59 @@ fn kinds_and_names_print_as_they_are_written(rt: HostRuntime) -> Result<(), Fail
         KnownSymbol::ElfGlobalOffsetTable.to_string(alloc)?.as_str(),
         "ElfGlobalOffsetTable"
     );
+    Ok(())
+}
+
+#[test]
+fn a_user_name_is_imported_once(rt: HostRuntime) -> Result<(), Fail> {
+    let alloc = rt.alloc();
+    let mut function = Function::new(alloc);
+    let first = UserExternalName {
+        namespace: 0,
+        index: 7,
+    };
+    let second = UserExternalName {
+        namespace: 1,
+        index: 7,
+    };
+    let place = function.declare_imported_user_function(first)?;
+    assert_eq!(rt; place.as_u32(), 0);
+    let place = function.declare_imported_user_function(second)?;
+    assert_eq!(rt; place.as_u32(), 1);
+    let place = function.declare_imported_user_function(first)?;
+    assert_eq!(rt; place.as_u32(), 0);
+    assert_eq!(rt; function.user_named_funcs().len(), 2);
+    Ok(())
+}
+
+#[test]
+fn imports_are_numbered_from_zero(rt: HostRuntime) -> Result<(), Fail> {
+    let alloc = rt.alloc();
+    let mut function = Function::new(alloc);
+    function.reserve_one()?;
+    let signature = function.import_signature(Signature::new(alloc, CallConv::SystemV))?;
+    assert_eq!(rt; signature, SigRef::from_u32(0));
+    let callee = ExtFuncData {
+        name: ExternalName::LibCall(LibCall::Memcpy),
+        signature,
+        colocated: false,
+        patchable: false,
+    };
+    let called = function.import_function(callee)?;
+    assert_eq!(rt; called, FuncRef::from_u32(0));
+    assert_eq!(rt; called.to_string(alloc)?.as_str(), "fn0");
+    let value = GlobalValueData {
+        name: ExternalName::TestCase,
+        offset: -8,
+        colocated: true,
+        tls: false,
+    };
+    let value = function.create_global_value(value)?;
+    assert_eq!(rt; value, GlobalValue::from_u32(0));
+    assert_eq!(rt; value.to_string(alloc)?.as_str(), "gv0");
+    assert!(rt; function.ext_funcs() == [callee].as_slice());
+    assert_eq!(rt; function.signatures().len(), 1);
+    assert_eq!(rt; function.global_values().len(), 1);
+    assert_eq!(rt; MachLabel::from_offset(100).as_offset(), 100);
     Ok(())
 }
