@@ -19,7 +19,7 @@ numbers() {
 cat "$crates"/goblin_reloc/src/*.rt | numbers > "$room/numbers"
 numbers < "$1" > "$room/their_numbers"
 # each row of the tables that contracts cite, whose constant has to be the one of its name
-sed -n 's/.*row \([0-9]*\) (codes "\(R_[A-Za-z0-9_]*\)") \2$/\2 \1/p' "$crates"/goblin_reloc/specs/*.antt | sort > "$room/rows"
+sed -n 's/.*relocation \([0-9]*\) (codes "\(R_[A-Za-z0-9_]*\)") \2$/\2 \1/p' "$crates"/goblin_reloc/specs/*.antt | sort > "$room/rows"
 cp "$room/their_numbers" "$room/their_rows"
 # each constant with the text that is told of it
 cat "$crates"/goblin_reloc_names/src/*.rt | tr '\n' ' ' \

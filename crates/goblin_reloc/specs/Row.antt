@@ -7,8 +7,8 @@ pub record Row : Type 0 where
   pub name : List ℕ
   pub constant : ℕ
 
-abbrev pub row : ℕ → List ℕ → ℕ → Row
-row number name constant = record { number = number; name = name; constant = constant }
+abbrev pub relocation : ℕ → List ℕ → ℕ → Row
+relocation number name constant = record { number = number; name = name; constant = constant }
 
 -- each constant is the number of its row
 abbrev pub ConstantsAgree : List Row → Type 0
