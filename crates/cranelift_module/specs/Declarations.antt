@@ -37,9 +37,10 @@ pub record FindsNames (names : BTreeMap (String Global) FuncOrDataId) (functions
 pub record IsSound (names : BTreeMap (String Global) FuncOrDataId) (functions : List FunctionRow) (objects : List DataRow) : Type 0 where
   pub finds : FindsNames names functions objects
   pub few : length functions ≤ 4294967295
+  pub few_objects : length objects ≤ 4294967295
 
--- the functions with their numbers, from this number on
-abbrev pub numbered : ℕ → List FunctionRow → List (ℕ × FunctionRow)
+-- some rows with their numbers, from this number on
+abbrev pub numbered : {A : Type 0} → ℕ → List A → List (ℕ × A)
 numbered n [] = []
 numbered n (row ∷ rows) = (n, row) ∷ numbered (n + 1) rows
 

@@ -1,5 +1,5 @@
 -- The laws of link states and linkages.
-use Rattle.std.specs.Prelude.{◌≡◌, ℕ, filter_map, List, [], ◌∷◌, ◌++◌, None}
+use Rattle.std.specs.Prelude.{◌≡◌, ℕ, filter_map, List, [], ◌∷◌, ◌++◌, Some, None}
 use Rattle.ir_core.specs.Target.{Target}
 use Rattle.cranelift_module.specs.declared.linkage.Linkage.{Linkage}
 use Rattle.std.specs.List.{list_any}
@@ -8,6 +8,8 @@ use Rattle.cranelift_module.specs.Linkage.{merge, greatest}
 use Rattle.cranelift_module.specs.Call.{Call, function_linkage, data_linkage, marks_writable}
 use Rattle.cranelift_module.specs.LinkState.{state_of, step, steps}
 use Rattle.cranelift_module.specs.Refusal.{refusal}
+use Rattle.cranelift_module.specs.declared.identifiers.FuncOrDataId.TheVariants.{Func, Data}
+use Rattle.cranelift_module.specs.Texts.{user_target, function_of, data_of}
 
 -- one more accepted call at the end of a list leaves the step of the list's state
 abbrev pub OneMoreCall : Type 0
@@ -35,3 +37,11 @@ MergeCommutes = (a b : Linkage) → merge a b ≡ merge b a
 
 abbrev pub MergeRepeats : Type 0
 MergeRepeats = (a : Linkage) → merge a a ≡ a
+
+-- the target made of a function stands for that function
+abbrev pub FunctionFromTarget : Type 0
+FunctionFromTarget = (id : ℕ) → function_of (user_target (Func id)) ≡ Some id
+
+-- the target made of a data object stands for that data object
+abbrev pub DataFromTarget : Type 0
+DataFromTarget = (id : ℕ) → data_of (user_target (Data id)) ≡ Some id

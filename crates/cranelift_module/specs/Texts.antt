@@ -1,5 +1,5 @@
 -- The printed texts of targets and refusals.
-use Rattle.std.specs.Prelude.{◌≡◌, ℕ, ◌==◌, Bool, true, false, List, ◌++◌, codes, decimal, string_bytes}
+use Rattle.std.specs.Prelude.{◌≡◌, ℕ, ◌==◌, Bool, true, false, if◌then◌else◌, Option, Some, None, List, ◌++◌, codes, decimal, string_bytes}
 use Rattle.ir_core.specs.Names.{reloc_name, libcall_name, known_symbol_name}
 use Rattle.ir_core.specs.Signature.{signature_text}
 use Rattle.cranelift_module.specs.declared.identifiers.FuncOrDataId.{FuncOrDataId}
@@ -32,6 +32,16 @@ IsFunctionTarget _ = ⊥
 abbrev pub IsDataTarget : ModuleRelocTarget → Type 0
 IsDataTarget (User namespace index) = namespace ≡ 1
 IsDataTarget _ = ⊥
+
+-- the function that a target stands for, where it is of namespace 0
+abbrev pub function_of : ModuleRelocTarget → Option ℕ
+function_of (User namespace index) = if namespace == 0 then Some index else None
+function_of _ = None
+
+-- the data object that a target stands for, where it is of namespace 1
+abbrev pub data_of : ModuleRelocTarget → Option ℕ
+data_of (User namespace index) = if namespace == 1 then Some index else None
+data_of _ = None
 
 -- a user's target is a function where its namespace is 0
 abbrev pub is_function_target : ModuleRelocTarget → Bool

@@ -2,16 +2,16 @@
 
 ghost use Rattle.std.specs.Prelude.{◌≡◌, ◌<◌, ◌≤◌, ◌+◌, ◌++◌, ◌∷◌, [], ℕ, Some, None, IfOk, IfErr, OnOk, OnErr, length, option_map, slice_get, string_bytes, string_cmp, option_copied, is_some, true, false};
 ghost use Rattle.std.specs.BTreeMap.{IsUnchanged, Updates, get_by_text};
-ghost use Rattle.cranelift_module.specs.declared.identifiers.FuncOrDataId.TheVariants.{Func};
+ghost use Rattle.cranelift_module.specs.declared.identifiers.FuncOrDataId.TheVariants.{Func, Data};
 ghost use Rattle.std.specs.List.{find, list_any, position_from};
 ghost use Rattle.cranelift_module.specs.declared.linkage.Linkage.TheVariants.{Local};
-ghost use Rattle.cranelift_module.specs.LinkState.{is_function_named, with_first, raised_function};
-ghost use Rattle.cranelift_module.specs.Declarations.{changed_at, function_found, numbered};
-ghost use Rattle.cranelift_module.specs.Refusal.{Tells, changes_signature, function_clash};
+ghost use Rattle.cranelift_module.specs.LinkState.{is_function_named, is_data_named, with_first, raised_function, raised_data};
+ghost use Rattle.cranelift_module.specs.Declarations.{changed_at, function_found, data_found, numbered};
+ghost use Rattle.cranelift_module.specs.Refusal.{Tells, changes_signature, changes_tls, function_clash, data_clash};
 
 use crate::{
-    DataDeclaration, FuncId, FuncOrDataId, FunctionDeclaration, Functions, Linkage, ModuleError,
-    ModuleRelocTarget, ModuleResult,
+    DataDeclaration, DataId, DataObjects, FuncId, FuncOrDataId, FunctionDeclaration, Functions,
+    Linkage, ModuleError, ModuleRelocTarget, ModuleResult,
 };
 use ir_core::Signature;
 use std::alloc::{AllocError, Global};
@@ -68,6 +68,14 @@ impl ModuleDeclarations {
         Functions::new(&self.functions)
     }
 
+    /// The declared data objects with their identifiers, by number.
+    pub fn get_data_objects(&self) -> DataObjects<'_>
+        ensures pairs { result ≡ numbered 0 (self.now).objects }
+        ensures bound { length result ≤ 4294967295 }
+    {
+        DataObjects::new(&self.objects)
+    }
+
     /// Whether a function is declared under a name.
     pub fn has_function(&self, name: &str) -> bool
         ensures { result ≡ list_any (is_function_named name.now) (self.now).functions }
@@ -102,6 +110,21 @@ impl ModuleDeclarations {
         ensures { slice_get (self.now).functions id ≡ Some result.now }
     {
         &self.functions[id.as_u32() as usize]
+    }
+
+    /// The declaration of a data object, where it is declared.
+    pub fn data(&self, id: DataId) -> Option<&DataDeclaration>
+        ensures { option_copied result ≡ slice_get (self.now).objects id }
+    {
+        self.objects.get(id.as_u32() as usize)
+    }
+
+    /// The declaration of a declared data object.
+    pub fn get_data_decl(&self, id: DataId) -> &DataDeclaration
+        requires { id < length (self.now).objects }
+        ensures { slice_get (self.now).objects id ≡ Some result.now }
+    {
+        &self.objects[id.as_u32() as usize]
     }
 
     /// A new name gets the next number; a known one keeps its number and its signature, and gets the
@@ -162,6 +185,70 @@ impl ModuleDeclarations {
         let id = FuncId::from_u32(self.functions.len() as u32);
         self.functions
             .push(FunctionDeclaration::new(None, Linkage::Local, signature))?;
+        Ok(id)
+    }
+
+    /// A new name gets the next number of a data object; a known one keeps its number and its
+    /// thread-local mark, gets the greatest linkage, and is writable where one of its declarations says
+    /// so. It answers the number and that linkage.
+    pub fn declare_data(
+        &mut self,
+        name: &str,
+        linkage: Linkage,
+        writable: bool,
+        tls: bool,
+    ) -> ModuleResult<(DataId, Linkage)>
+        requires { length (self.old).objects < 4294967295 }
+        ensures accepted { OnOk result (data_clash (self.old).functions (self.old).objects name.now tls ≡ None) }
+        ensures declared { OnOk result (self.new ≡ record self.old { objects = with_first (is_data_named name.now) (raised_data linkage writable) (record { name = Some name.now; linkage = linkage; writable = writable; tls = tls }) (self.old).objects }) }
+        ensures id { IfOk result (λ answer. position_from (is_data_named name.now) 0 (self.new).objects ≡ Some answer.0) }
+        ensures linkage { IfOk result (λ answer. option_map (λ row. row.linkage) (slice_get (self.new).objects answer.0) ≡ Some answer.1) }
+        ensures new { IfOk result (λ answer. list_any (is_data_named name.now) (self.old).objects ≡ false → answer.0 ≡ length (self.old).objects) }
+        ensures count { length (self.new).objects ≤ length (self.old).objects + 1 }
+        ensures refused { IfErr result (λ e. Tells e (data_clash (self.old).functions (self.old).objects name.now tls)) }
+        ensures kept { OnErr result (self.new ≡ self.old) }
+    {
+        match found(&self.names, name) {
+            None => declare_data_first(
+                self.alloc,
+                &mut self.names,
+                &mut self.objects,
+                name,
+                linkage,
+                writable,
+                tls,
+            ),
+            Some(known) => match known {
+                FuncOrDataId::Data(id) => {
+                    declare_data_again(
+                        self.alloc,
+                        &mut self.objects,
+                        id,
+                        name,
+                        linkage,
+                        writable,
+                        tls,
+                    )
+                }
+                FuncOrDataId::Func(_) => {
+                    let name = String::from_str(self.alloc, name)?;
+                    Err(ModuleError::IncompatibleDeclaration(name))
+                }
+            },
+        }
+    }
+
+    /// A data object without a name: the next number, Local.
+    pub fn declare_anonymous_data(&mut self, writable: bool, tls: bool) -> ModuleResult<DataId>
+        requires { length (self.old).objects < 4294967295 }
+        ensures declared { OnOk result (self.new ≡ record self.old { objects = (self.old).objects ++ record { name = None; linkage = Local; writable = writable; tls = tls } ∷ [] }) }
+        ensures id { IfOk result (λ id. id ≡ length (self.old).objects) }
+        ensures refused { IfErr result (λ e. Tells e None) }
+        ensures kept { OnErr result (self.new ≡ self.old) }
+    {
+        let id = DataId::from_u32(self.objects.len() as u32);
+        self.objects
+            .push(DataDeclaration::new(None, Linkage::Local, writable, tls))?;
         Ok(id)
     }
 }
@@ -246,6 +333,72 @@ fn declare_first(
     functions.reserve(1)?;
     names.insert(key, FuncOrDataId::Func(id))?;
     if functions.push(declaration).is_err() {
+        unreachable!()
+    }
+    Ok((id, linkage))
+}
+
+// A known data object keeps its number and its thread-local mark, gets the greater linkage, and is
+// writable where one of its declarations says so.
+fn declare_data_again(
+    alloc: Global,
+    objects: &mut Vec<DataDeclaration>,
+    id: DataId,
+    name: &str,
+    linkage: Linkage,
+    writable: bool,
+    tls: bool,
+) -> ModuleResult<(DataId, Linkage)>
+    requires { position_from (is_data_named name.now) 0 objects.old.items ≡ Some id }
+    ensures accepted { OnOk result (changes_tls name.now tls (find (is_data_named name.now) objects.old.items) ≡ None) }
+    ensures declared { OnOk result (objects.new.items ≡ with_first (is_data_named name.now) (raised_data linkage writable) (record { name = Some name.now; linkage = linkage; writable = writable; tls = tls }) objects.old.items) }
+    ensures found { OnOk result (objects.new.items ≡ changed_at id (raised_data linkage writable) objects.old.items) }
+    ensures id { IfOk result (λ answer. position_from (is_data_named name.now) 0 objects.new.items ≡ Some answer.0) }
+    ensures linkage { IfOk result (λ answer. option_map (λ row. row.linkage) (slice_get objects.new.items answer.0) ≡ Some answer.1) }
+    ensures known { OnOk result (list_any (is_data_named name.now) objects.old.items ≡ true) }
+    ensures count { length objects.new.items ≤ length objects.old.items + 1 }
+    ensures refused { IfErr result (λ e. Tells e (changes_tls name.now tls (find (is_data_named name.now) objects.old.items))) }
+    ensures kept { OnErr result (objects.new.items ≡ objects.old.items) }
+{
+    let known = &mut objects[id.as_u32() as usize];
+    if known.tls() != tls {
+        let name = String::from_str(alloc, name)?;
+        return Err(ModuleError::IncompatibleDataTls(name, known.tls(), tls));
+    }
+    known.raise(linkage, writable);
+    Ok((id, known.linkage()))
+}
+
+// A new data object stands at the end, and its name is found; both, or nothing.
+fn declare_data_first(
+    alloc: Global,
+    names: &mut BTreeMap<String, FuncOrDataId>,
+    objects: &mut Vec<DataDeclaration>,
+    name: &str,
+    linkage: Linkage,
+    writable: bool,
+    tls: bool,
+) -> ModuleResult<(DataId, Linkage)>
+    requires few { length objects.old.items < 4294967295 }
+    requires new { position_from (is_data_named name.now) 0 objects.old.items ≡ None }
+    ensures declared { OnOk result (objects.new.items ≡ with_first (is_data_named name.now) (raised_data linkage writable) (record { name = Some name.now; linkage = linkage; writable = writable; tls = tls }) objects.old.items) }
+    ensures pushed { OnOk result (objects.new.items ≡ objects.old.items ++ record { name = Some name.now; linkage = linkage; writable = writable; tls = tls } ∷ []) }
+    ensures id { IfOk result (λ answer. position_from (is_data_named name.now) 0 objects.new.items ≡ Some answer.0) }
+    ensures linkage { IfOk result (λ answer. option_map (λ row. row.linkage) (slice_get objects.new.items answer.0) ≡ Some answer.1) }
+    ensures number { IfOk result (λ answer. answer.0 ≡ length objects.old.items) }
+    ensures count { length objects.new.items ≤ length objects.old.items + 1 }
+    ensures found { OnOk result ((text : _) × (string_bytes text ≡ name.now) × Updates string_cmp names.old names.new text (Some (Data (length objects.old.items)))) }
+    ensures refused { IfErr result (λ e. Tells e None) }
+    ensures kept { OnErr result (objects.new.items ≡ objects.old.items) }
+    ensures names_kept { OnErr result (IsUnchanged names.old names.new) }
+{
+    let id = DataId::from_u32(objects.len() as u32);
+    let key = String::from_str(alloc, name)?;
+    let name = Some(String::from_str(alloc, name)?);
+    let declaration = DataDeclaration::new(name, linkage, writable, tls);
+    objects.reserve(1)?;
+    names.insert(key, FuncOrDataId::Data(id))?;
+    if objects.push(declaration).is_err() {
         unreachable!()
     }
     Ok((id, linkage))

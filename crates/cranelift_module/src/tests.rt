@@ -1,6 +1,7 @@
 use crate::{
-    BackendCause, DataId, FuncId, FuncOrDataId, Linkage, ModuleDeclarations, ModuleError,
-    ModuleRelocTarget, SectionFault, check_definable, check_no_zero_byte, default_libcall_names,
+    BackendCause, DataDescription, DataId, FuncId, FuncOrDataId, Init, Linkage, ModuleDeclarations,
+    ModuleError, ModuleRelocTarget, SectionFault, check_definable, check_no_zero_byte,
+    default_libcall_names,
 };
 use ir_core::{AbiParam, CallConv, KnownSymbol, LibCall, Reloc, Signature, ValueType};
 use std::alloc::Global;
@@ -153,6 +154,95 @@ fn another_signature_is_refused_and_changes_nothing(rt: HostRuntime) -> Result<(
     let (_, linkage) = declarations.declare_function("f", Linkage::Import, &plain)?;
     assert_eq!(rt; linkage, Linkage::Local);
     Ok(())
+}
+
+#[test]
+fn data_keeps_its_number_under_a_refused_function_and_gets_a_greater_linkage(
+    rt: HostRuntime,
+) -> Result<(), Fail> {
+    let alloc = rt.alloc();
+    let signature = Signature::new(alloc, CallConv::SystemV);
+    let mut declarations = ModuleDeclarations::new(alloc);
+    declarations.declare_data("x", Linkage::Local, false, false)?;
+    match declarations.declare_function("x", Linkage::Export, &signature) {
+        Ok(_) => return Err(Fail::from("a function was taken")),
+        Err(error) => prints(
+            &rt,
+            alloc,
+            &error,
+            "Incompatible declaration of identifier: x",
+        )?,
+    }
+    let x = DataId::from_u32(0);
+    assert_eq!(rt; declarations.get_name("x"), Some(FuncOrDataId::Data(x)));
+    let (id, linkage) = declarations.declare_data("x", Linkage::Hidden, true, false)?;
+    assert_eq!(rt; id, x);
+    assert_eq!(rt; linkage, Linkage::Hidden);
+    let (_, linkage) = declarations.declare_data("x", Linkage::Import, false, false)?;
+    assert_eq!(rt; linkage, Linkage::Hidden);
+    Ok(())
+}
+
+#[test]
+fn data_without_a_name_counts_apart_from_functions(rt: HostRuntime) -> Result<(), Fail> {
+    let alloc = rt.alloc();
+    let signature = Signature::new(alloc, CallConv::SystemV);
+    let mut declarations = ModuleDeclarations::new(alloc);
+    let function = declarations.declare_anonymous_function(&signature)?;
+    let data = declarations.declare_anonymous_data(true, true)?;
+    assert_eq!(rt; data.as_u32(), 0);
+    let ten = FuncId::from_u32(10);
+    let name = declarations
+        .get_function_decl(function)
+        .linkage_name(alloc, ten)?;
+    assert_eq!(rt; name.as_str(), ".Lfna");
+    for (id, object) in declarations.get_data_objects() {
+        assert_eq!(rt; id, data);
+        assert!(rt; object.name().is_none() && object.writable() && object.tls());
+        let name = object.linkage_name(alloc, DataId::from_u32(255))?;
+        assert_eq!(rt; name.as_str(), ".Ldataff");
+    }
+    Ok(())
+}
+
+#[test]
+fn a_cleared_description_says_nothing(rt: HostRuntime) -> Result<(), Fail> {
+    let alloc = rt.alloc();
+    let mut description = DataDescription::new(alloc);
+    description.import_function(ModuleRelocTarget::user(0, 7))?;
+    description.import_function(ModuleRelocTarget::user(0, 8))?;
+    let third = description.import_function(ModuleRelocTarget::user(0, 7))?;
+    assert_eq!(rt; third.as_u32(), 2);
+    description.import_global_value(ModuleRelocTarget::user(1, 0))?;
+    let second = description.import_global_value(ModuleRelocTarget::user(1, 1))?;
+    assert_eq!(rt; second.as_u32(), 1);
+    assert_eq!(rt; description.function_decls().len(), 3);
+    assert_eq!(rt; description.data_decls().len(), 2);
+    description.clear();
+    assert!(rt; matches!(description.init(), Init::Uninitialized));
+    assert_eq!(rt; description.function_decls().len(), 0);
+    assert_eq!(rt; description.data_decls().len(), 0);
+    assert_eq!(rt; description.function_relocs().len(), 0);
+    assert_eq!(rt; description.data_relocs().len(), 0);
+    assert!(rt; description.custom_section().is_none());
+    assert!(rt; description.align().is_none() && !description.used());
+    Ok(())
+}
+
+#[test]
+fn another_thread_local_mark_is_refused(rt: HostRuntime) -> Result<(), Fail> {
+    let alloc = rt.alloc();
+    let mut declarations = ModuleDeclarations::new(alloc);
+    declarations.declare_data("t", Linkage::Import, false, true)?;
+    match declarations.declare_data("t", Linkage::Export, true, false) {
+        Ok(_) => Err(Fail::from("another mark was taken")),
+        Err(error) => prints(
+            &rt,
+            alloc,
+            &error,
+            "Data object t TLS false is incompatible with previous declaration TLS true",
+        ),
+    }
 }
 
 #[test]

@@ -9,13 +9,13 @@ use Rattle.cranelift_module.specs.declared.linkage.Linkage.{Linkage}
 use Rattle.cranelift_module.specs.declared.reloc.ModuleReloc.{ModuleReloc}
 use Rattle.cranelift_module.specs.declared.identifiers.FuncOrDataId.{FuncOrDataId}
 use Rattle.cranelift_module.specs.declared.identifiers.FuncOrDataId.TheVariants.{Func}
-use Rattle.cranelift_module.specs.Call.{Call, declare_function, define_function}
+use Rattle.cranelift_module.specs.Call.{Call, declare_function, declare_data, define_function}
 use Rattle.cranelift_module.specs.Rows.{FunctionRow, DataRow}
 use Rattle.cranelift_module.specs.Definitions.{Definition}
 use Rattle.cranelift_object.specs.Opened.{function_definition}
 use Rattle.ir_core.specs.Target.{Target}
 use Rattle.cranelift_module.specs.LinkState.{LinkState, step}
-use Rattle.cranelift_module.specs.Refusal.{Refusal, Tells, refusal, refusal_told, zero_byte, function_clash, undefinable, is_defined, refuse_if, duplicate_definition, function_name}
+use Rattle.cranelift_module.specs.Refusal.{Refusal, Tells, refusal, refusal_told, zero_byte, function_clash, data_clash, undefinable, is_defined, refuse_if, duplicate_definition, function_name}
 use Rattle.cranelift_module.specs.IsCall.{IsCall}
 
 -- -- the first of two causes
@@ -95,3 +95,12 @@ pub refusal_declared : (s : LinkState) (name : List ℕ) (linkage : Linkage) (si
     → refusal s (declare_function name linkage signature) ≡ function_clash functions objects name signature
 unfolding refusal
 refusal_declared s name linkage signature functions objects h e f = rw (h, e, f) refl
+
+pub refusal_data_name : (s : LinkState) (name : List ℕ) (linkage : Linkage) (writable tls : Bool) (e : ModuleError) → Tells e (zero_byte name) → Tells e (refusal s (declare_data name linkage writable tls))
+unfolding refusal
+refusal_data_name s name linkage writable tls e h = tells_first e (zero_byte name) (data_clash s.functions s.objects name tls) h
+
+pub refusal_data_declared : (s : LinkState) (name : List ℕ) (linkage : Linkage) (writable tls : Bool) (functions : List FunctionRow) (objects : List DataRow) → zero_byte name ≡ None → functions ≡ s.functions → objects ≡ s.objects
+    → refusal s (declare_data name linkage writable tls) ≡ data_clash functions objects name tls
+unfolding refusal
+refusal_data_declared s name linkage writable tls functions objects h e f = rw (h, e, f) refl

@@ -1,14 +1,12 @@
 -- What one definition of a module adds to its object.
-use Rattle.std.proofs.Common.{◌≡◌, ◌≢◌, ℕ, zero, suc, ◌+◌, ◌||◌, ◌<◌, ◌≤◌, ◌^◌, ◌++◌, ◌∷◌, length-take, List, [], Bool, true, false, cond, max, length, map, take, get_or, Option, Some, None, refl, ap, sym, ◌∙◌, arith, inl, inr, eq-eqb, append_assoc}
+use Rattle.std.proofs.Common.{◌≡◌, ◌≢◌, ℕ, zero, suc, ◌+◌, ◌||◌, ◌<◌, ◌≤◌, ◌^◌, ◌++◌, ◌∷◌, length-take, List, [], Bool, true, false, cond, max, length, map, take, get_or, Option, Some, None, refl, ap, sym, ◌∙◌, arith, inl, inr, append_assoc}
 use Rattle.std.proofs.lemmas.List.{append-nil, map-append, take_more, take_all, length-map}
 use Rattle.std.proofs.lemmas.List.Elements.{All-nil, All-push, All-take, All-map, All-weaker, All-head, All-tail, All-cons}
 use Rattle.std.proofs.lemmas.List.Sums.{sum_by-le}
-use Rattle.std.proofs.lemmas.List.FromFn.{map-range_with_len_more, length-map-range_with_len, get_or-map-range_with_len}
 use Rattle.std.proofs.lemmas.Option.{slice_get_within, get_or_from_slice_get, slice_get-get_or, slice_get-map}
-use Rattle.std.proofs.lemmas.Bool.Decides.{eqb_tells}
 use Rattle.std.proofs.lemmas.Bool.{cases_Bool}
 use Rattle.std.specs.Prelude.{slice_get, option_map, find}
-use Rattle.std.specs.List.{All, list_any, range_with_len, position_or_len, enumerate_from}
+use Rattle.std.specs.List.{All, list_any, range_with_len, enumerate_from}
 use Rattle.std.specs.Int.{is_power_of_two}
 use Rattle.std.proofs.Math.Nat.{mul-le-mul_right}
 use lib.Count.{ones}
@@ -23,7 +21,7 @@ use Rattle.object_core.specs.declared.kinds.SymbolSection.{SymbolSection}
 use Rattle.object_core.specs.Object.{SectionData, ObjectData}
 use Rattle.object_core.specs.Appending.{with_symbol, file_symbol, with_symbol_data, IsUndefined, HasBytes}
 use Rattle.cranelift_module.specs.declared.identifiers.FuncOrDataId.{FuncOrDataId}
-use Rattle.cranelift_module.specs.declared.identifiers.FuncOrDataId.TheVariants.{Func}
+use Rattle.cranelift_module.specs.declared.identifiers.FuncOrDataId.TheVariants.{Func, Data}
 use Rattle.cranelift_module.specs.Call.{bytes}
 use Rattle.cranelift_module.specs.Rows.{FunctionRow, DataRow}
 use Rattle.cranelift_module.specs.Definitions.{Definition}
@@ -31,15 +29,18 @@ use Rattle.cranelift_module.specs.LinkState.{LinkState}
 use Rattle.cranelift_module.specs.Refusal.{is_same_identifier, is_defined}
 use Rattle.cranelift_object.specs.Settings.{Settings}
 use Rattle.cranelift_object.specs.Opened.{OpenModule, function_definition}
-use Rattle.cranelift_object.specs.Kept.{IsModule, IsBody, IsFirst}
+use Rattle.cranelift_object.specs.Kept.{IsModule, IsBody, IsFirst, Marks}
 use Rattle.cranelift_object.specs.SectionClass.{Class, section_class}
 use Rattle.cranelift_object.specs.Placing.{Placed, share, sections_used, align_of, room_of}
-use Rattle.cranelift_object.specs.Linked.{defined_at, identifier_symbol, function_symbol, symbol_place, object_of}
+use Rattle.cranelift_object.specs.Linked as linked
+use Rattle.cranelift_object.specs.Linked.{defined_at, identifier_symbol, function_symbol, object_of}
 use Rattle.cranelift_object.specs.Partial.{placed_of, partial, opened, number_behind}
 use Rattle.cranelift_object.proofs.ClassLaws.{placed_definitions, used-end}
+use Rattle.cranelift_object.proofs.FirstCause.{row_at}
 use Rattle.cranelift_object.specs.Product.{begun_object, with_function_section, function_section, function_mark, function_marks, data_mark, data_marks, symbol_number, product_of}
 use Rattle.cranelift_object.proofs.OpenLaws.{opened_own, opened_shared, number_own, number_text}
-use Rattle.cranelift_object.proofs.SectionLaws.{apart_test}
+use Rattle.cranelift_object.specs.Marking.{with_symbols, functions_in, data_in, marks_of_functions, marks_of_objects}
+use Rattle.cranelift_object.proofs.CreationLaws.{function_stands, place_is, places_apart, functions_in-append, data_in-append, functions_numbered, data_numbered, function_within, data_within}
 use Rattle.cranelift_object.proofs.ObjectLaws.{IsPlain, partial-end, partial_whole, section_there, section_at, All-slice_get}
 
 -- -- definitions of a module
@@ -64,7 +65,7 @@ find_no same [] h = refl
 find_no same (p ∷ ps) h = find_from same p ps (same p.definition) (find_no same ps) h
 
 -- no definition before it is of the same function
-pub undefined_before : (o : OpenModule) (marks : List Bool) (j function : ℕ) (contents : List ℕ) → IsModule o marks → slice_get o.state.definitions j ≡ Some (function_definition function contents) → defined_at (placed_of o.settings o.state (take j o.state.definitions)) (Func function) ≡ None
+pub undefined_before : (o : OpenModule) (marks : Marks) (j function : ℕ) (contents : List ℕ) → IsModule o marks → slice_get o.state.definitions j ≡ Some (function_definition function contents) → defined_at (placed_of o.settings o.state (take j o.state.definitions)) (Func function) ≡ None
 undefined_before o marks j function contents h at =
     let d : Definition = function_definition function contents in
     let ds : List Definition = o.state.definitions in
@@ -74,23 +75,16 @@ undefined_before o marks j function contents h at =
 
 -- -- identifiers in order of creation
 
-pub created_at : (o : OpenModule) (marks : List Bool) (k : ℕ) → IsModule o marks → k < length o.state.functions → slice_get o.state.created k ≡ Some (Func k)
-created_at o marks k h below =
-    let n : ℕ = length o.state.functions in
-    let long = length-map-range_with_len (λ i. Func i) 0 n in
-    let in' : k < length (map (λ i. Func i) (range_with_len 0 n)) = omega (arith, long, below) in
-    rw (h.order, slice_get-get_or (map (λ i. Func i) (range_with_len 0 n)) k (Func 0) in', get_or-map-range_with_len (λ i. Func i) 0 n k k (Func 0) below (omega arith)) refl
+-- where a declared function stands
+pub created_at : (o : OpenModule) (marks : Marks) (k : ℕ) → IsModule o marks → k < length o.state.functions → (r : ℕ) × (slice_get o.state.created r ≡ Some (Func k))
+created_at o marks k h below = function_stands 0 0 (length o.state.functions) (length o.state.objects) o.state.created k h.order (omega arith) below
 
-pub created_within : (o : OpenModule) (marks : List Bool) (i : ℕ) (y : FuncOrDataId) → IsModule o marks → slice_get o.state.created i ≡ Some y → i < length o.state.functions
-created_within o marks i y h at =
-    let below = slice_get_within o.state.created i y at in
-    omega (arith, below, ap length h.order, length-map-range_with_len (λ i. Func i) 0 (length o.state.functions))
+-- the symbol of an identifier stands behind that of the file and those of the identifiers before it
+pub symbol_place : (o : OpenModule) (marks : Marks) (r : ℕ) (id : FuncOrDataId) → IsModule o marks → slice_get o.state.created r ≡ Some id → symbol_number o.state id ≡ suc r
+symbol_place o marks r id h at = let place = place_is 0 0 (length o.state.functions) (length o.state.objects) o.state.created r id h.order at in omega (arith, place)
 
-pub created_apart : (o : OpenModule) (marks : List Bool) (k i : ℕ) (y : FuncOrDataId) → IsModule o marks → slice_get o.state.created i ≡ Some y → i ≢ k → is_same_identifier y (Func k) ≡ false
-created_apart o marks k i y h at ne =
-    let there = created_at o marks i h (created_within o marks i y h at) in
-    let same : y ≡ Func i = cc in
-    rw same (elim (eqb_tells i k) [ inl e ↦ absurd (ne e.1) | inr e ↦ e.0 ])
+pub created_apart : (o : OpenModule) (marks : Marks) (r i : ℕ) (y id : FuncOrDataId) → IsModule o marks → slice_get o.state.created r ≡ Some id → slice_get o.state.created i ≡ Some y → i ≢ r → is_same_identifier y id ≡ false
+created_apart o marks r i y id h there at ne = places_apart 0 0 (length o.state.functions) (length o.state.objects) o.state.created i r y id h.order at there ne
 
 -- -- sections of functions have bytes
 
@@ -122,7 +116,7 @@ pub text_kind : (settings : Settings) (s : LinkState) (count : ℕ) (d : Definit
 text_kind settings s count d body = rw body.is refl
 
 -- each section in use is one of bytes
-pub text_kinds : (o : OpenModule) (marks : List Bool) (j : ℕ) (d : Definition) → IsModule o marks → slice_get o.state.definitions j ≡ Some d
+pub text_kinds : (o : OpenModule) (marks : Marks) (j : ℕ) (d : Definition) → IsModule o marks → slice_get o.state.definitions j ≡ Some d
     → All (λ (c : Class). is_zero_fill c.kind ≡ false) (sections_used (map (section_class o.settings o.state) (take j o.state.definitions) ++ section_class o.settings o.state d ∷ []))
 text_kinds o marks j d h at =
     let n : ℕ = length o.state.functions in
@@ -162,46 +156,44 @@ align_most S390x = omega arith
 
 -- -- one more definition
 
-pub row_at : (rows : List FunctionRow) (k : ℕ) → k < length rows → (row : FunctionRow) × (slice_get rows k ≡ Some row)
-row_at [] k h = absurd (omega arith)
-row_at (r ∷ rows) zero h = (r, refl)
-row_at (r ∷ rows) (suc k) h = row_at rows k (omega arith)
-
 front_more : {A : Type 0} (xs : List A) (j : ℕ) (x : A) → slice_get xs j ≡ Some x → take (j + 1) xs ≡ take j xs ++ x ∷ []
 front_more xs j x at = take_more xs j x (slice_get_within xs j x at) ∙ ap (λ y. take j xs ++ y ∷ []) (get_or_from_slice_get xs j x x at)
 
 -- the object with one more definition has its contents behind those of its section
-pub definition_step : (o : OpenModule) (marks : List Bool) (j function : ℕ) (contents : List ℕ) → IsModule o marks → slice_get o.state.definitions j ≡ Some (function_definition function contents) → function < length o.state.functions
+pub definition_step : (o : OpenModule) (marks : Marks) (j function : ℕ) (contents : List ℕ) → IsModule o marks → slice_get o.state.definitions j ≡ Some (function_definition function contents) → function < length o.state.functions
     → partial o.settings o.state (take (j + 1) o.state.definitions)
-    ≡ with_symbol_data (opened o.settings o.state (take j o.state.definitions) (function_definition function contents)) (suc function) (number_behind o.settings o.state (take j o.state.definitions) (function_definition function contents)) contents (symbol_alignment o.state.target.triple.architecture)
+    ≡ with_symbol_data (opened o.settings o.state (take j o.state.definitions) (function_definition function contents)) (symbol_number o.state (Func function)) (number_behind o.settings o.state (take j o.state.definitions) (function_definition function contents)) contents (symbol_alignment o.state.target.triple.architecture)
 definition_step o marks j function contents h at below =
     let d : Definition = function_definition function contents in
     let ds : List Definition = o.state.definitions in
     let row = row_at o.state.functions function below in
+    let there = created_at o marks function h below in
     let step =
-    partial-end o.settings o.state (take j ds) d function function row.0 refl refl row.1 (undefined_before o marks j function contents h at) (created_at o marks function h below) (λ i y found ne. created_apart o marks function i y h found ne)
+    partial-end o.settings o.state (take j ds) d function there.0 row.0 refl refl row.1 (undefined_before o marks j function contents h at) there.1 (λ i y found ne. created_apart o marks there.0 i y (Func function) h there.1 found ne)
     (text_kinds o marks j d h at)
     in
     ap (partial o.settings o.state) (front_more ds j d at) ∙ step
-    ∙ ap (with_symbol_data (opened o.settings o.state (take j ds) d) (suc function) (number_behind o.settings o.state (take j ds) d) contents) (align_least o.state.target.triple.architecture)
+    ∙ ap (with_symbol_data (opened o.settings o.state (take j ds) d) (suc there.0) (number_behind o.settings o.state (take j ds) d) contents) (align_least o.state.target.triple.architecture)
+    ∙ ap (λ (n : ℕ). with_symbol_data (opened o.settings o.state (take j ds) d) n (number_behind o.settings o.state (take j ds) d) contents (symbol_alignment o.state.target.triple.architecture)) (sym (symbol_place o marks there.0 (Func function) h there.1))
 
 -- -- what the calls of an object ask for
 
 -- the symbol of the function is not defined yet
-pub opened_undefined : (o : OpenModule) (marks : List Bool) (j function : ℕ) (contents : List ℕ) → IsModule o marks → slice_get o.state.definitions j ≡ Some (function_definition function contents) → function < length o.state.functions
-    → IsUndefined (opened o.settings o.state (take j o.state.definitions) (function_definition function contents)) (suc function)
+pub opened_undefined : (o : OpenModule) (marks : Marks) (j function : ℕ) (contents : List ℕ) → IsModule o marks → slice_get o.state.definitions j ≡ Some (function_definition function contents) → function < length o.state.functions
+    → IsUndefined (opened o.settings o.state (take j o.state.definitions) (function_definition function contents)) (symbol_number o.state (Func function))
 unfolding opened
 opened_undefined o marks j function contents h at below =
     let ps : List Placed = placed_of o.settings o.state (take j o.state.definitions) in
     let row = row_at o.state.functions function below in
     let place : Option Symbol → Option SymbolSection = option_map (λ (t : Symbol). t.section) in
-    let there = slice_get-map (identifier_symbol o.state ps) o.state.created function ∙ ap (option_map (identifier_symbol o.state ps)) (created_at o marks function h below) in
+    let created = created_at o marks function h below in
+    let there = slice_get-map (identifier_symbol o.state ps) o.state.created created.0 ∙ ap (option_map (identifier_symbol o.state ps)) created.1 in
     let known = ap (λ (r : Option FunctionRow). Some (function_symbol ps function r)) row.1 in
-    let none = ap (λ (p : Option Placed). Some (symbol_place p)) (undefined_before o marks j function contents h at) in
-    ap place (there ∙ known) ∙ none
+    let none = ap (λ (p : Option Placed). Some (linked.symbol_place p)) (undefined_before o marks j function contents h at) in
+    rw (symbol_place o marks created.0 (Func function) h created.1) (ap place (there ∙ known) ∙ none)
 
 -- its section has bytes
-pub opened_bytes : (o : OpenModule) (marks : List Bool) (j : ℕ) (d : Definition) → IsModule o marks → slice_get o.state.definitions j ≡ Some d
+pub opened_bytes : (o : OpenModule) (marks : Marks) (j : ℕ) (d : Definition) → IsModule o marks → slice_get o.state.definitions j ≡ Some d
     → HasBytes (opened o.settings o.state (take j o.state.definitions) d) (number_behind o.settings o.state (take j o.state.definitions) d)
 unfolding opened
 opened_bytes o marks j d h at =
@@ -220,7 +212,7 @@ small_room o count d body =
     rw body.is (omega (arith, small, most))
 
 -- so few bytes are asked for
-pub opened_sum : (o : OpenModule) (marks : List Bool) (j : ℕ) (d : Definition) → IsModule o marks → length o.state.definitions < 2 ^ 63 → (opened o.settings o.state (take j o.state.definitions) d).content_sum < 2 ^ 127
+pub opened_sum : (o : OpenModule) (marks : Marks) (j : ℕ) (d : Definition) → IsModule o marks → length o.state.definitions < 2 ^ 63 → (opened o.settings o.state (take j o.state.definitions) d).content_sum < 2 ^ 127
 unfolding opened
 opened_sum o marks j d h few =
     let n : ℕ = length o.state.functions in
@@ -264,7 +256,7 @@ pub record IsAdding (o : OpenModule) (number function : ℕ) (contents : List �
   pub found : slice_get o.state.definitions number ≡ Some (function_definition function contents)
   pub declared : function < length o.state.functions
 
-pub adding : (o : OpenModule) (marks : List Bool) (number function : ℕ) (xs : List ℕ) (d : Definition) → IsModule o marks → number < length o.state.definitions → d ≡ get_or o.state.definitions number d → d.identifier ≡ Func function → d.contents ≡ bytes xs → IsAdding o number function xs
+pub adding : (o : OpenModule) (marks : Marks) (number function : ℕ) (xs : List ℕ) (d : Definition) → IsModule o marks → number < length o.state.definitions → d ≡ get_or o.state.definitions number d → d.identifier ≡ Func function → d.contents ≡ bytes xs → IsAdding o number function xs
 adding o marks number function xs d h below at named holds =
     let there : slice_get o.state.definitions number ≡ Some d = slice_get-get_or o.state.definitions number d below ∙ ap Some (sym at) in
     let body = All-slice_get (IsBody (length o.state.functions)) o.state.definitions number d h.bodies there in
@@ -276,23 +268,6 @@ adding o marks number function xs d h below at named holds =
 
 -- -- the symbols of functions
 
-place_in_range : (k a n t : ℕ) → k < n → t ≡ a + k → position_or_len (is_same_identifier (Func t)) (map (λ i. Func i) (range_with_len a n)) ≡ k
-place_in_range k a zero t below e = absurd (omega arith)
-place_in_range zero a (suc n) t below e =
-    let here : t ≡ a = omega arith in
-    rw (eq-eqb t a here) refl
-place_in_range (suc k) a (suc n) t below e =
-    let ne : t ≢ a = omega arith in
-    let less : k < n = omega arith in
-    let next : t ≡ a + 1 + k = omega arith in
-    rw (apart_test t a ne, place_in_range k (a + 1) n t less next) (omega arith)
-
--- the symbol of a function stands behind that of the file and those of the functions before it
-pub function_place : (o : OpenModule) (marks : List Bool) (k : ℕ) → IsModule o marks → k < length o.state.functions → symbol_number o.state (Func k) ≡ suc k
-function_place o marks k h below =
-    let place = ap (position_or_len (is_same_identifier (Func k))) h.order ∙ place_in_range k 0 (length o.state.functions) k below (omega arith) in
-    omega (arith, place)
-
 -- the marks of functions by number
 marked_at : (s : LinkState) (rows : List FunctionRow) (i k j : ℕ) → k < length rows → j ≡ i + k → slice_get (map (λ (row : ℕ × FunctionRow). function_mark s row.0) (enumerate_from i rows)) k ≡ Some (function_mark s j)
 marked_at s [] i k j below e = absurd (omega arith)
@@ -301,7 +276,7 @@ marked_at s (row ∷ rows) i zero j below e =
     rw here refl
 marked_at s (row ∷ rows) i (suc k) j below e = marked_at s rows (i + 1) k j (omega arith) (omega arith)
 
-pub mark_at : (o : OpenModule) (marks : List Bool) (k : ℕ) → IsModule o marks → k < length o.state.functions → slice_get (function_marks o.state) k ≡ Some (function_mark o.state k)
+pub mark_at : (o : OpenModule) (marks : Marks) (k : ℕ) → IsModule o marks → k < length o.state.functions → slice_get (function_marks o.state) k ≡ Some (function_mark o.state k)
 unfolding function_marks
 mark_at o marks k h below = marked_at o.state o.state.functions 0 k k below (omega arith)
 
@@ -314,10 +289,10 @@ unfolding function_marks
 marks_length s = marks_long s 0 s.functions
 
 -- the symbol in the row of a function
-pub symbol_in_row : (o : OpenModule) (marks : List Bool) (rows : List (ℕ × Bool)) (i k : ℕ) (row : ℕ × Bool) → IsModule o marks → rows ≡ function_marks o.state → k < length o.state.functions → i ≡ k → (get_or rows i row).0 ≡ suc k
+pub symbol_in_row : (o : OpenModule) (marks : Marks) (rows : List (ℕ × Bool)) (i k : ℕ) (row : ℕ × Bool) → IsModule o marks → rows ≡ function_marks o.state → k < length o.state.functions → i ≡ k → (get_or rows i row).0 ≡ symbol_number o.state (Func k)
 symbol_in_row o marks rows i k row h e below same =
     let there = get_or_from_slice_get (function_marks o.state) k (function_mark o.state k) row (mark_at o marks k h below) in
-    ap (λ (j : ℕ). (get_or rows j row).0) same ∙ ap (λ (rs : List (ℕ × Bool)). (get_or rs k row).0) e ∙ ap (λ (r : ℕ × Bool). r.0) there ∙ function_place o marks k h below
+    ap (λ (j : ℕ). (get_or rows j row).0) same ∙ ap (λ (rs : List (ℕ × Bool)). (get_or rs k row).0) e ∙ ap (λ (r : ℕ × Bool). r.0) there
 
 -- the object with a section for one more function
 pub later_is : (settings : Settings) (s : LinkState) (ds : List Definition) (object later : ObjectData) (function : ℕ) (contents : List ℕ) → object ≡ partial settings s ds → later ≡ with_function_section settings object → later ≡ opened settings s ds (function_definition function contents)
@@ -327,8 +302,8 @@ pub section_is : (settings : Settings) (s : LinkState) (ds : List Definition) (o
 section_is settings s ds object section function contents e f = f ∙ ap (function_section settings) e ∙ function_number settings s ds function contents
 
 -- what the call leaves
-pub adds : (o : OpenModule) (marks : List Bool) (number function symbol section align : ℕ) (contents : List ℕ) (object later left : ObjectData) → IsModule o marks → IsAdding o number function contents → object ≡ partial o.settings o.state (take number o.state.definitions)
-    → later ≡ with_function_section o.settings object → section ≡ function_section o.settings object → symbol ≡ suc function → align ≡ symbol_alignment o.state.target.triple.architecture → left ≡ with_symbol_data later symbol section contents align
+pub adds : (o : OpenModule) (marks : Marks) (number function symbol section align : ℕ) (contents : List ℕ) (object later left : ObjectData) → IsModule o marks → IsAdding o number function contents → object ≡ partial o.settings o.state (take number o.state.definitions)
+    → later ≡ with_function_section o.settings object → section ≡ function_section o.settings object → symbol ≡ symbol_number o.state (Func function) → align ≡ symbol_alignment o.state.target.triple.architecture → left ≡ with_symbol_data later symbol section contents align
     → left ≡ partial o.settings o.state (take (number + 1) o.state.definitions)
 adds o marks number function symbol section align contents object later left h add e f g named aligned ends =
     let ds : List Definition = take number o.state.definitions in
@@ -341,63 +316,103 @@ pub body_plain : (count : ℕ) (d : Definition) → IsBody count d → d.relocs 
 body_plain count d body = ap (λ (x : Definition). x.relocs) body.is
 
 -- once all definitions are there, the object is that of the state
-pub all_added : (o : OpenModule) (marks : List Bool) (n : ℕ) (object : ObjectData) → IsModule o marks → length o.state.definitions ≤ n → object ≡ partial o.settings o.state (take n o.state.definitions) → object ≡ object_of o.settings o.state
+pub all_added : (o : OpenModule) (marks : Marks) (n : ℕ) (object : ObjectData) → IsModule o marks → length o.state.definitions ≤ n → object ≡ partial o.settings o.state (take n o.state.definitions) → object ≡ object_of o.settings o.state
 all_added o marks n object h past e =
     let plain = All-weaker (IsBody (length o.state.functions)) IsPlain (λ d body. body_plain (length o.state.functions) d body) o.state.definitions h.bodies in
     e ∙ ap (partial o.settings o.state) (take_all n o.state.definitions past) ∙ partial_whole o.settings o.state plain
 
 -- -- symbols, one after the other
 
--- one more function's symbol
-pub symbols_more : (o : OpenModule) (marks : List Bool) (k : ℕ) → IsModule o marks → k < length o.state.functions → map (identifier_symbol o.state []) (take (k + 1) o.state.created) ≡ map (identifier_symbol o.state []) (take k o.state.created) ++ identifier_symbol o.state [] (Func k) ∷ []
-symbols_more o marks k h below =
-    ap (map (identifier_symbol o.state [])) (front_more o.state.created k (Func k) (created_at o marks k h below)) ∙ map-append (identifier_symbol o.state []) (take k o.state.created) (Func k ∷ [])
+-- one more identifier's symbol
+pub with_symbols_more : (o : OpenModule) (k : ℕ) (id : FuncOrDataId) (object later : ObjectData) → slice_get o.state.created k ≡ Some id → object ≡ with_symbols o k → later ≡ with_symbol object (identifier_symbol o.state [] id) → later ≡ with_symbols o (k + 1)
+with_symbols_more o k id object later at e f =
+    let more = ap (map (identifier_symbol o.state [])) (front_more o.state.created k id at) ∙ map-append (identifier_symbol o.state []) (take k o.state.created) (id ∷ []) in
+    f ∙ ap (λ (x : ObjectData). with_symbol x (identifier_symbol o.state [] id)) e ∙ ap (λ (ts : List Symbol). record (begun_object o.settings o.state) { symbols = file_symbol o.settings.file_name ∷ ts }) (sym more)
 
--- the object with the symbols of the first functions
-abbrev pub with_symbols : OpenModule → ℕ → ObjectData
-with_symbols o k = record (begun_object o.settings o.state) { symbols = file_symbol o.settings.file_name ∷ map (identifier_symbol o.state []) (take k o.state.created) }
-
-pub with_symbols_none : (o : OpenModule) → begun_object o.settings o.state ≡ with_symbols o 0
-with_symbols_none o = refl
-
-pub with_symbols_more : (o : OpenModule) (marks : List Bool) (k : ℕ) (object later : ObjectData) → IsModule o marks → k < length o.state.functions → object ≡ with_symbols o k → later ≡ with_symbol object (identifier_symbol o.state [] (Func k)) → later ≡ with_symbols o (k + 1)
-with_symbols_more o marks k object later h below e f =
-    f ∙ ap (λ (x : ObjectData). with_symbol x (identifier_symbol o.state [] (Func k))) e
-    ∙ ap (λ (ts : List Symbol). record (begun_object o.settings o.state) { symbols = file_symbol o.settings.file_name ∷ ts }) (sym (symbols_more o marks k h below))
-
-pub with_symbols_all : (o : OpenModule) (marks : List Bool) (n : ℕ) → IsModule o marks → length o.state.functions ≤ n → with_symbols o n ≡ partial o.settings o.state []
+pub with_symbols_all : (o : OpenModule) (n : ℕ) → length o.state.created ≤ n → with_symbols o n ≡ partial o.settings o.state []
 unfolding partial sections_used moments
-with_symbols_all o marks n h past =
-    let long : length o.state.created ≤ n = omega (arith, past, ap length h.order, length-map-range_with_len (λ i. Func i) 0 (length o.state.functions)) in
-    ap (λ (ids : List FuncOrDataId). record (begun_object o.settings o.state) { symbols = file_symbol o.settings.file_name ∷ map (identifier_symbol o.state []) ids }) (take_all n o.state.created long)
+with_symbols_all o n past =
+    ap (λ (ids : List FuncOrDataId). record (begun_object o.settings o.state) { symbols = file_symbol o.settings.file_name ∷ map (identifier_symbol o.state []) ids }) (take_all n o.state.created past)
 
--- the row of one more function
-pub mark_is : (o : OpenModule) (marks : List Bool) (k : ℕ) (object : ObjectData) (row : ℕ × Bool) → IsModule o marks → k < length o.state.functions → object ≡ with_symbols o k → row ≡ (length object.symbols, is_defined o.state (Func k)) → row ≡ function_mark o.state k
-mark_is o marks k object row h below e f =
-    let long : length o.state.created ≡ length o.state.functions = ap length h.order ∙ length-map-range_with_len (λ i. Func i) 0 (length o.state.functions) in
-    let count : length (with_symbols o k).symbols ≡ symbol_number o.state (Func k) =
-    omega (arith, length-map (take k o.state.created) (identifier_symbol o.state []), length-take k o.state.created, long, below, function_place o marks k h below)
-    in
-    let P : ℕ → ℕ × Bool = λ n. (n, is_defined o.state (Func k)) in
-    f ∙ ap (λ (x : ObjectData). P (length x.symbols)) e ∙ ap P count
+-- the number of the next symbol is that of the next identifier
+pub symbol_is : (o : OpenModule) (marks : Marks) (k : ℕ) (id : FuncOrDataId) (object : ObjectData) → IsModule o marks → slice_get o.state.created k ≡ Some id → object ≡ with_symbols o k → length object.symbols ≡ symbol_number o.state id
+symbol_is o marks k id object h at e =
+    let below = slice_get_within o.state.created k id at in
+    let count : length (with_symbols o k).symbols ≡ suc k = omega (arith, length-map (take k o.state.created) (identifier_symbol o.state []), length-take k o.state.created, below) in
+    ap (λ (x : ObjectData). length x.symbols) e ∙ count ∙ sym (symbol_place o marks k id h at)
+
+-- the rows of one more function
+pub function_row_more : (o : OpenModule) (marks : Marks) (k f : ℕ) (object : ObjectData) (rows new : List (ℕ × Bool)) (row : ℕ × Bool) → IsModule o marks → slice_get o.state.created k ≡ Some (Func f) → object ≡ with_symbols o k → row ≡ (length object.symbols, is_defined o.state (Func f))
+    → rows ≡ marks_of_functions o.state (take k o.state.created) → new ≡ rows ++ row ∷ [] → new ≡ marks_of_functions o.state (take (k + 1) o.state.created)
+unfolding marks_of_functions
+function_row_more o marks k f object rows new row h at e is before pushed =
+    let P : ℕ → ℕ × Bool = λ n. (n, is_defined o.state (Func f)) in
+    let mark : row ≡ function_mark o.state f = is ∙ ap P (symbol_is o marks k (Func f) object h at e) in
+    let front = ap functions_in (front_more o.state.created k (Func f) at) ∙ functions_in-append (take k o.state.created) (Func f ∷ []) in
+    pushed ∙ ap (λ (rs : List (ℕ × Bool)). rs ++ row ∷ []) before ∙ ap (λ (r : ℕ × Bool). map (function_mark o.state) (functions_in (take k o.state.created)) ++ r ∷ []) mark
+    ∙ sym (map-append (function_mark o.state) (functions_in (take k o.state.created)) (f ∷ [])) ∙ ap (map (function_mark o.state)) (sym front)
+
+pub data_row_more : (o : OpenModule) (marks : Marks) (k d : ℕ) (object : ObjectData) (rows new : List (ℕ × Bool)) (row : ℕ × Bool) → IsModule o marks → slice_get o.state.created k ≡ Some (Data d) → object ≡ with_symbols o k → row ≡ (length object.symbols, is_defined o.state (Data d))
+    → rows ≡ marks_of_objects o.state (take k o.state.created) → new ≡ rows ++ row ∷ [] → new ≡ marks_of_objects o.state (take (k + 1) o.state.created)
+unfolding marks_of_objects
+data_row_more o marks k d object rows new row h at e is before pushed =
+    let P : ℕ → ℕ × Bool = λ n. (n, is_defined o.state (Data d)) in
+    let mark : row ≡ data_mark o.state d = is ∙ ap P (symbol_is o marks k (Data d) object h at e) in
+    let front = ap data_in (front_more o.state.created k (Data d) at) ∙ data_in-append (take k o.state.created) (Data d ∷ []) in
+    pushed ∙ ap (λ (rs : List (ℕ × Bool)). rs ++ row ∷ []) before ∙ ap (λ (r : ℕ × Bool). map (data_mark o.state) (data_in (take k o.state.created)) ++ r ∷ []) mark
+    ∙ sym (map-append (data_mark o.state) (data_in (take k o.state.created)) (d ∷ [])) ∙ ap (map (data_mark o.state)) (sym front)
+
+-- a data object adds no row of a function, and a function none of a data object
+pub functions_past : (o : OpenModule) (k d : ℕ) → slice_get o.state.created k ≡ Some (Data d) → marks_of_functions o.state (take k o.state.created) ≡ marks_of_functions o.state (take (k + 1) o.state.created)
+unfolding marks_of_functions
+functions_past o k d at =
+    let front = ap functions_in (front_more o.state.created k (Data d) at) ∙ functions_in-append (take k o.state.created) (Data d ∷ []) ∙ append-nil (functions_in (take k o.state.created)) in
+    ap (map (function_mark o.state)) (sym front)
+
+pub objects_past : (o : OpenModule) (k f : ℕ) → slice_get o.state.created k ≡ Some (Func f) → marks_of_objects o.state (take k o.state.created) ≡ marks_of_objects o.state (take (k + 1) o.state.created)
+unfolding marks_of_objects
+objects_past o k f at =
+    let front = ap data_in (front_more o.state.created k (Func f) at) ∙ data_in-append (take k o.state.created) (Func f ∷ []) ∙ append-nil (data_in (take k o.state.created)) in
+    ap (map (data_mark o.state)) (sym front)
+
+pub none_marked : (s : LinkState) → ([] ≡ marks_of_functions s (take 0 s.created)) × ([] ≡ marks_of_objects s (take 0 s.created))
+unfolding marks_of_functions marks_of_objects
+none_marked s = (refl, refl)
 
 marks_from : (s : LinkState) (i : ℕ) (rows : List FunctionRow) → map (λ (row : ℕ × FunctionRow). function_mark s row.0) (enumerate_from i rows) ≡ map (function_mark s) (range_with_len i (length rows))
 marks_from s i [] = refl
 marks_from s i (row ∷ rows) = rw (marks_from s (i + 1) rows) refl
 
-pub marks_whole : (s : LinkState) (n : ℕ) → n ≡ length s.functions → map (function_mark s) (range_with_len 0 n) ≡ function_marks s
-unfolding function_marks
-marks_whole s n e = ap (λ (k : ℕ). map (function_mark s) (range_with_len 0 k)) e ∙ sym (marks_from s 0 s.functions)
+data_marks_from : (s : LinkState) (i : ℕ) (rows : List DataRow) → map (λ (row : ℕ × DataRow). data_mark s row.0) (enumerate_from i rows) ≡ map (data_mark s) (range_with_len i (length rows))
+data_marks_from s i [] = refl
+data_marks_from s i (row ∷ rows) = rw (data_marks_from s (i + 1) rows) refl
 
-pub marks_more : (s : LinkState) (k : ℕ) (rows new : List (ℕ × Bool)) (row : ℕ × Bool) → rows ≡ map (function_mark s) (range_with_len 0 k) → new ≡ rows ++ row ∷ [] → row ≡ function_mark s k → new ≡ map (function_mark s) (range_with_len 0 (k + 1))
-marks_more s k rows new row e f g =
-    f ∙ ap (λ (rs : List (ℕ × Bool)). rs ++ row ∷ []) e ∙ ap (λ (r : ℕ × Bool). map (function_mark s) (range_with_len 0 k) ++ r ∷ []) g ∙ sym (map-range_with_len_more (function_mark s) 0 k k (omega arith))
+-- with all identifiers they are the rows of all functions, and of all data objects
+pub functions_whole : (o : OpenModule) (marks : Marks) (n : ℕ) → IsModule o marks → length o.state.created ≤ n → marks_of_functions o.state (take n o.state.created) ≡ function_marks o.state
+unfolding marks_of_functions function_marks
+functions_whole o marks n h past =
+    ap (λ (ids : List FuncOrDataId). map (function_mark o.state) (functions_in ids)) (take_all n o.state.created past)
+    ∙ ap (map (function_mark o.state)) (functions_numbered 0 0 (length o.state.functions) (length o.state.functions) (length o.state.objects) o.state.created h.order (omega arith))
+    ∙ sym (marks_from o.state 0 o.state.functions)
 
--- there are no data objects
-pub no_data_marks : (o : OpenModule) (marks : List Bool) → IsModule o marks → [] ≡ data_marks o.state
-unfolding data_marks
-no_data_marks o marks h = sym (ap (λ (objects : List DataRow). map (λ (row : ℕ × DataRow). data_mark o.state row.0) (enumerate_from 0 objects)) h.no_objects)
+pub objects_whole : (o : OpenModule) (marks : Marks) (n : ℕ) → IsModule o marks → length o.state.created ≤ n → marks_of_objects o.state (take n o.state.created) ≡ data_marks o.state
+unfolding marks_of_objects data_marks
+objects_whole o marks n h past =
+    ap (λ (ids : List FuncOrDataId). map (data_mark o.state) (data_in ids)) (take_all n o.state.created past)
+    ∙ ap (map (data_mark o.state)) (data_numbered 0 0 (length o.state.objects) (length o.state.functions) (length o.state.objects) o.state.created h.order (omega arith))
+    ∙ sym (data_marks_from o.state 0 o.state.objects)
+
+-- the identifier in hand is declared
+pub created_function : (o : OpenModule) (marks : Marks) (k f : ℕ) → IsModule o marks → slice_get o.state.created k ≡ Some (Func f) → f < length o.state.functions
+created_function o marks k f h at = (function_within 0 0 (length o.state.functions) (length o.state.objects) o.state.created k f h.order at).1
+
+pub created_data : (o : OpenModule) (marks : Marks) (k d : ℕ) → IsModule o marks → slice_get o.state.created k ≡ Some (Data d) → d < length o.state.objects
+created_data o marks k d h at = (data_within 0 0 (length o.state.functions) (length o.state.objects) o.state.created k d h.order at).1
+
+-- what stands at a place in the list in hand
+pub created_there : (ids all : List FuncOrDataId) (k : ℕ) (id : FuncOrDataId) → ids ≡ all → k < length all → id ≡ get_or ids k id → slice_get all k ≡ Some id
+created_there ids all k id same below e = slice_get-get_or all k id below ∙ ap (λ (x : FuncOrDataId). Some x) (sym (e ∙ ap (λ (xs : List FuncOrDataId). get_or xs k id) same))
 
 -- the product of a module
-pub product_is : (o : OpenModule) (marks : List Bool) (object : ObjectData) (rows : List (ℕ × Bool)) → IsModule o marks → object ≡ object_of o.settings o.state → rows ≡ function_marks o.state → record { object = object; functions = rows; data_objects = [] } ≡ product_of o.settings o.state
-product_is o marks object rows h e f = rw (e, f, no_data_marks o marks h) refl
+pub product_is : (o : OpenModule) (object : ObjectData) (rows objects : List (ℕ × Bool)) → object ≡ object_of o.settings o.state → rows ≡ function_marks o.state → objects ≡ data_marks o.state → record { object = object; functions = rows; data_objects = objects } ≡ product_of o.settings o.state
+product_is o object rows objects e f g = rw (e, f, g) refl

@@ -1,5 +1,5 @@
 -- The first cause of a list, from a place on.
-use Rattle.std.proofs.Common.{◌≡◌, ℕ, ◌+◌, ◌<◌, ◌≤◌, List, ◌∷◌, map, length, drop, get_or, None, refl, ap, add-one, drop-cons, String, string_bytes}
+use Rattle.std.proofs.Common.{◌≡◌, ℕ, zero, suc, ◌+◌, ◌<◌, ◌≤◌, List, [], ◌∷◌, map, length, drop, get_or, slice_get, Some, None, arith, refl, ap, add-one, drop-cons, String, string_bytes}
 use Rattle.std.specs.Global.{Global}
 use Rattle.std.proofs.lemmas.List.{drop_all}
 use Rattle.std.specs.Option.{option_or}
@@ -15,3 +15,9 @@ texts_step texts i text h e = ap (λ rest. first_cause (map zero_byte (map strin
 
 pub texts_end : (texts : List (String Global)) (i : ℕ) → length texts ≤ i → first_cause (map zero_byte (map string_bytes (drop i texts))) ≡ None
 texts_end texts i h = rw drop_all refl
+
+-- what stands at a place of a list
+pub row_at : {A : Type 0} (rows : List A) (k : ℕ) → k < length rows → (row : A) × (slice_get rows k ≡ Some row)
+row_at [] k h = absurd (omega arith)
+row_at (r ∷ rows) zero h = (r, refl)
+row_at (r ∷ rows) (suc k) h = row_at rows k (omega arith)

@@ -2,7 +2,6 @@
 use Rattle.std.proofs.Common.{◌≡◌, ℕ, zero, suc, ◌+◌, ◌%◌, ◌/◌, ◌==◌, ◌||◌, ◌<◌, ◌≤◌, ◌++◌, ◌∷◌, List, [], Bool, true, false, cond, length, map, Option, Some, None, refl, ap, sym, ◌∙◌, subst, arith, inl, inr, codes}
 use Rattle.std.proofs.lemmas.Bool.Decides.{eqb_tells}
 use Rattle.std.proofs.lemmas.List.{append-nil, map-append, length-map}
-use Rattle.std.proofs.lemmas.List.FromFn.{length-map-range_with_len}
 use Rattle.std.proofs.lemmas.List.Elements.{All-nil, All-cons, All-push, All-weaker, All-map, All-filter, All-head, All-tail, filter-append}
 use Rattle.std.proofs.lemmas.List.Sums.{sum_by_push}
 use Rattle.std.proofs.lemmas.Option.{slice_get-map, slice_get_within}
@@ -10,7 +9,7 @@ use Rattle.std.specs.Prelude.{slice_get, option_map, unwrap_or, sum_by, nat_lt, 
 use Rattle.std.specs.List.{All, list_any, position_from, filter}
 use Rattle.std.specs.Fmt.{digits, digits_onto, digit_glyph}
 use Rattle.std.specs.Int.{next_multiple_of}
-use Rattle.cranelift_module.specs.Refusal.{function_name, zero_byte}
+use Rattle.cranelift_module.specs.Refusal.{function_name, data_name, zero_byte}
 use Rattle.cranelift_module.specs.Refusal.{backend}
 use Rattle.cranelift_module.specs.declared.error.BackendCause.TheVariants.{NulByte}
 use Rattle.cranelift_module.specs.Definitions.{Definition}
@@ -24,7 +23,7 @@ use Rattle.cranelift_object.specs.Partial.{placed_of, partial}
 use Rattle.cranelift_object.proofs.SectionLaws.{end_of-end}
 use Rattle.cranelift_object.proofs.ClassLaws.{placed_of-end, placed_below, placed_definitions}
 use Rattle.cranelift_object.proofs.DefineLaws.{All-front, All-last}
-use Rattle.cranelift_module.specs.Rows.{FunctionRow}
+use Rattle.cranelift_module.specs.Rows.{FunctionRow, DataRow}
 use Rattle.object_core.specs.declared.symbol.Symbol.{Symbol}
 use Rattle.object_core.specs.declared.relocation.Relocation.{Relocation}
 use Rattle.object_core.specs.declared.kinds.SymbolKind.TheVariants as kind
@@ -32,18 +31,20 @@ use Rattle.object_core.specs.declared.kinds.StandardSection.TheVariants.{Text}
 use Rattle.object_core.specs.Object.{SectionData, ObjectData}
 use Rattle.object_core.specs.Appending.{file_symbol}
 use Rattle.cranelift_module.specs.declared.linkage.Linkage.{Linkage}
-use Rattle.cranelift_module.specs.declared.identifiers.FuncOrDataId.TheVariants.{Func}
+use Rattle.cranelift_module.specs.declared.identifiers.FuncOrDataId.{FuncOrDataId}
+use Rattle.cranelift_module.specs.declared.identifiers.FuncOrDataId.TheVariants.{Func, Data}
 use Rattle.cranelift_module.specs.Refusal.{is_same_identifier}
 use Rattle.cranelift_object.specs.Opened.{OpenModule}
 use Rattle.cranelift_object.specs.SectionClass.{Class, section_class, standard_class}
-use Rattle.cranelift_object.specs.Linked.{defined_at, named_symbol, function_symbol, identifier_symbol, section_with, members, relocations_of, object_of}
+use Rattle.cranelift_object.specs.Linked.{defined_at, named_symbol, function_symbol, data_symbol, identifier_symbol, section_with, members, relocations_of, object_of}
 use Rattle.cranelift_object.specs.Product.{IsWritable}
 use Rattle.cranelift_object.specs.Partial.{sections_from}
 use Rattle.cranelift_object.proofs.ObjectLaws.{All-slice_get, partial_whole, IsPlain}
-use Rattle.cranelift_object.proofs.DefineLaws.{created_at, row_at, used_all, body_plain}
+use Rattle.cranelift_object.proofs.DefineLaws.{created_function, created_data, used_all, body_plain}
+use Rattle.cranelift_object.proofs.FirstCause.{row_at}
 use Rattle.cranelift_object.proofs.OpenLaws.{sections_length}
 use Rattle.object_core.specs.WellFormed.{IsFormedElf, IsFormedSymbol, IsFormedRelocation, has_zero_byte}
-use Rattle.cranelift_object.specs.Kept.{IsModule, IsBody, IsName}
+use Rattle.cranelift_object.specs.Kept.{IsModule, IsBody, IsName, Marks}
 
 -- -- names
 
@@ -87,13 +88,17 @@ digits_no_zero : (n : ℕ) → has_zero_byte (digits 16 false n) ≡ false
 unfolding digits
 digits_no_zero n = digits_above 64 n [] refl
 
-name_no_zero : (name : Option (List ℕ)) (id : ℕ) → IsName name → has_zero_byte (unwrap_or name (codes ".Lfn" ++ digits 16 false id)) ≡ false
-name_no_zero None id h = digits_no_zero id
-name_no_zero (Some name) id h = no_zero name h
+name_no_zero : (name : Option (List ℕ)) (own : List ℕ) → has_zero_byte own ≡ false → IsName name → has_zero_byte (unwrap_or name own) ≡ false
+name_no_zero None own free h = free
+name_no_zero (Some name) own free h = no_zero name h
 
 -- the name of a function has no zero byte
 pub function_no_zero : (row : FunctionRow) (id : ℕ) → IsName row.name → has_zero_byte (function_name row id) ≡ false
-function_no_zero row id h = name_no_zero row.name id h
+function_no_zero row id h = name_no_zero row.name (codes ".Lfn" ++ digits 16 false id) (digits_no_zero id) h
+
+-- nor has that of a data object
+pub data_no_zero : (row : DataRow) (id : ℕ) → IsName row.name → has_zero_byte (data_name row id) ≡ false
+data_no_zero row id h = name_no_zero row.name (codes ".Ldata" ++ digits 16 false id) (digits_no_zero id) h
 
 -- -- places of definitions
 
@@ -180,17 +185,36 @@ formed_function o s ps k names within below =
     let named = formed_named o (function_name row.0 k) row.0.linkage (defined_at ps (Func k)) name (λ p h. find_holds (IsWithin o) (λ (q : Placed). is_same_identifier (Func k) q.definition.identifier) p ps within h) in
     subst (λ (r : Option FunctionRow). IsFormedSymbol o (function_symbol ps k r)) (sym row.1) named
 
-formed_identifier : (o : OpenModule) (marks : List Bool) (object : ObjectData) (ps : List Placed) (i : ℕ) (t : Symbol) → IsModule o marks → All (IsWithin object) ps → slice_get (map (identifier_symbol o.state ps) o.state.created) i ≡ Some t → IsFormedSymbol object t
+formed_named_data : (o : ObjectData) (name : List ℕ) (linkage : Linkage) (tls : Bool) (at : Option Placed) → has_zero_byte name ≡ false → ((p : Placed) → at ≡ Some p → IsWithin o p) → IsFormedSymbol o (named_symbol name linkage (cond tls kind.Tls kind.Data) at)
+formed_named_data o name linkage tls at h within = formed_kind tls at within where
+  formed_kind : (tls : Bool) (at : Option Placed) → ((p : Placed) → at ≡ Some p → IsWithin o p) → IsFormedSymbol o (named_symbol name linkage (cond tls kind.Tls kind.Data) at)
+  formed_kind true None within = record { name = h; place = tt; value = omega arith }
+  formed_kind false None within = record { name = h; place = tt; value = omega arith }
+  formed_kind true (Some p) within = let inside = within p refl in record { name = h; place = inside.0; value = omega (arith, inside.1) }
+  formed_kind false (Some p) within = let inside = within p refl in record { name = h; place = inside.0; value = omega (arith, inside.1) }
+
+formed_object : (o : ObjectData) (s : LinkState) (ps : List Placed) (k : ℕ) → All (λ (row : DataRow). IsName row.name) s.objects → All (IsWithin o) ps → k < length s.objects → IsFormedSymbol o (identifier_symbol s ps (Data k))
+formed_object o s ps k names within below =
+    let row = row_at s.objects k below in
+    let name = data_no_zero row.0 k (All-slice_get (λ (r : DataRow). IsName r.name) s.objects k row.0 names row.1) in
+    let named = formed_named_data o (data_name row.0 k) row.0.linkage row.0.tls (defined_at ps (Data k)) name (λ p h. find_holds (IsWithin o) (λ (q : Placed). is_same_identifier (Data k) q.definition.identifier) p ps within h) in
+    subst (λ (r : Option DataRow). IsFormedSymbol o (data_symbol ps k r)) (sym row.1) named
+
+formed_one : (o : OpenModule) (marks : Marks) (object : ObjectData) (ps : List Placed) (i : ℕ) (id : FuncOrDataId) → IsModule o marks → All (IsWithin object) ps → slice_get o.state.created i ≡ Some id → IsFormedSymbol object (identifier_symbol o.state ps id)
+formed_one o marks object ps i (Func k) h within at = formed_function object o.state ps k h.names within (created_function o marks i k h at)
+formed_one o marks object ps i (Data k) h within at = formed_object object o.state ps k h.object_names within (created_data o marks i k h at)
+
+formed_identifier : (o : OpenModule) (marks : Marks) (object : ObjectData) (ps : List Placed) (i : ℕ) (t : Symbol) → IsModule o marks → All (IsWithin object) ps → slice_get (map (identifier_symbol o.state ps) o.state.created) i ≡ Some t → IsFormedSymbol object t
 formed_identifier o marks object ps i t h within at =
     let long = length-map o.state.created (identifier_symbol o.state ps) in
-    let count : length o.state.created ≡ length o.state.functions = ap length h.order ∙ length-map-range_with_len (λ n. Func n) 0 (length o.state.functions) in
     let inside = slice_get_within (map (identifier_symbol o.state ps) o.state.created) i t at in
-    let below : i < length o.state.functions = omega (arith, long, count, inside) in
-    let there : Some (identifier_symbol o.state ps (Func i)) ≡ Some t = sym (slice_get-map (identifier_symbol o.state ps) o.state.created i ∙ ap (option_map (identifier_symbol o.state ps)) (created_at o marks i h below)) ∙ at in
-    let same : identifier_symbol o.state ps (Func i) ≡ t = cc in
-    subst (IsFormedSymbol object) same (formed_function object o.state ps i h.names within below)
+    let below : i < length o.state.created = omega (arith, long, inside) in
+    let id = row_at o.state.created i below in
+    let there : Some (identifier_symbol o.state ps id.0) ≡ Some t = sym (slice_get-map (identifier_symbol o.state ps) o.state.created i ∙ ap (option_map (identifier_symbol o.state ps)) id.1) ∙ at in
+    let same : identifier_symbol o.state ps id.0 ≡ t = cc in
+    subst (IsFormedSymbol object) same (formed_one o marks object ps i id.0 h within id.1)
 
-formed_at : (o : OpenModule) (marks : List Bool) (object : ObjectData) (ps : List Placed) (k : ℕ) (t : Symbol) → IsModule o marks → All (IsWithin object) ps → slice_get (file_symbol o.settings.file_name ∷ map (identifier_symbol o.state ps) o.state.created) k ≡ Some t → IsFormedSymbol object t
+formed_at : (o : OpenModule) (marks : Marks) (object : ObjectData) (ps : List Placed) (k : ℕ) (t : Symbol) → IsModule o marks → All (IsWithin object) ps → slice_get (file_symbol o.settings.file_name ∷ map (identifier_symbol o.state ps) o.state.created) k ≡ Some t → IsFormedSymbol object t
 formed_at o marks object ps zero t h within at =
     let same : file_symbol o.settings.file_name ≡ t = cc in
     let file : IsFormedSymbol object (file_symbol o.settings.file_name) = record { name = no_zero o.settings.file_name h.begun.file_name; place = tt; value = omega arith } in
@@ -233,7 +257,7 @@ body_least : (count : ℕ) (d : Definition) → IsBody count d → 1 ≤ d.align
 body_least count d body = rw body.is (omega arith)
 
 -- each definition lies in a section of the object
-pub placed_within : (o : OpenModule) (marks : List Bool) → IsModule o marks → All (IsWithin (partial o.settings o.state o.state.definitions)) (placed_of o.settings o.state o.state.definitions)
+pub placed_within : (o : OpenModule) (marks : Marks) → IsModule o marks → All (IsWithin (partial o.settings o.state o.state.definitions)) (placed_of o.settings o.state o.state.definitions)
 unfolding partial
 placed_within o marks h =
     let ds : List Definition = o.state.definitions in
@@ -244,12 +268,12 @@ placed_within o marks h =
     let sections = All-weaker (λ (p : Placed). p.section < length used) (λ (p : Placed). p.section < length (sections_from o.settings o.state 0 used ps)) (λ p l. omega (arith, l, count)) ps (placed_below o.settings o.state ds) in
     both_within (partial o.settings o.state ds) ps sections (places_within o.settings o.state ds least)
 
-formed_symbols : (o : OpenModule) (marks : List Bool) → IsModule o marks → (k : ℕ) (t : Symbol) → slice_get (partial o.settings o.state o.state.definitions).symbols k ≡ Some t → IsFormedSymbol (partial o.settings o.state o.state.definitions) t
+formed_symbols : (o : OpenModule) (marks : Marks) → IsModule o marks → (k : ℕ) (t : Symbol) → slice_get (partial o.settings o.state o.state.definitions).symbols k ≡ Some t → IsFormedSymbol (partial o.settings o.state o.state.definitions) t
 unfolding partial
 formed_symbols o marks h k t at = formed_at o marks (partial o.settings o.state o.state.definitions) (placed_of o.settings o.state o.state.definitions) k t h (placed_within o marks h) at
 
 -- a section of the object is that of the class of a function
-section_is_text : (o : OpenModule) (marks : List Bool) → IsModule o marks → (k : ℕ) (x : SectionData) → slice_get (partial o.settings o.state o.state.definitions).sections k ≡ Some x
+section_is_text : (o : OpenModule) (marks : Marks) → IsModule o marks → (k : ℕ) (x : SectionData) → slice_get (partial o.settings o.state o.state.definitions).sections k ≡ Some x
     → (c : Class) × (j : ℕ) × (has_zero_byte c.name ≡ false) × (x ≡ section_with o.settings o.state c (members (placed_of o.settings o.state o.state.definitions) j))
 unfolding partial
 section_is_text o marks h k x at =
@@ -260,10 +284,10 @@ section_is_text o marks h k x at =
     let all = used_all Q (map class ds) (All-map Q class ds (All-weaker (IsBody n) (λ d. Q (class d)) (λ d body. text_name o.settings o.state n d body) ds h.bodies)) in
     class_of Q o.settings o.state (placed_of o.settings o.state ds) (sections_used (map class ds)) 0 k x all at
 
-formed_names : (o : OpenModule) (marks : List Bool) → IsModule o marks → (k : ℕ) (x : SectionData) → slice_get (partial o.settings o.state o.state.definitions).sections k ≡ Some x → has_zero_byte x.name ≡ false
+formed_names : (o : OpenModule) (marks : Marks) → IsModule o marks → (k : ℕ) (x : SectionData) → slice_get (partial o.settings o.state o.state.definitions).sections k ≡ Some x → has_zero_byte x.name ≡ false
 formed_names o marks h k x at = let text = section_is_text o marks h k x at in ap (λ (y : SectionData). has_zero_byte y.name) text.3 ∙ text.2
 
-formed_relocations : (o : OpenModule) (marks : List Bool) → IsModule o marks → (k : ℕ) (x : SectionData) → slice_get (partial o.settings o.state o.state.definitions).sections k ≡ Some x → (m : ℕ) (r : Relocation) → slice_get x.relocations m ≡ Some r
+formed_relocations : (o : OpenModule) (marks : Marks) → IsModule o marks → (k : ℕ) (x : SectionData) → slice_get (partial o.settings o.state o.state.definitions).sections k ≡ Some x → (m : ℕ) (r : Relocation) → slice_get x.relocations m ≡ Some r
     → IsFormedRelocation (partial o.settings o.state o.state.definitions) x r
 formed_relocations o marks h k x at m r found =
     let text = section_is_text o marks h k x at in
@@ -277,7 +301,7 @@ formed_relocations o marks h k x at m r found =
     absurd (let k : None ≡ Some r = sym (ap (λ (rs : List Relocation). slice_get rs m) empty) ∙ found in cc)
 
 -- the object of a module can be written
-pub formed : (o : OpenModule) (marks : List Bool) → IsModule o marks → IsFormedElf (object_of o.settings o.state)
+pub formed : (o : OpenModule) (marks : Marks) → IsModule o marks → IsFormedElf (object_of o.settings o.state)
 formed o marks h =
     let plain = All-weaker (IsBody (length o.state.functions)) IsPlain (λ d body. body_plain (length o.state.functions) d body) o.state.definitions h.bodies in
     subst IsFormedElf (partial_whole o.settings o.state plain) (record { symbols = formed_symbols o marks h; names = formed_names o marks h; relocations = formed_relocations o marks h })
@@ -286,5 +310,5 @@ object_format : (settings : Settings) (s : LinkState) → (object_of settings s)
 unfolding object_of
 object_format settings s = refl
 
-pub writable : (o : OpenModule) (marks : List Bool) (object : ObjectData) → IsModule o marks → object ≡ object_of o.settings o.state → IsWritable object
+pub writable : (o : OpenModule) (marks : Marks) (object : ObjectData) → IsModule o marks → object ≡ object_of o.settings o.state → IsWritable object
 writable o marks object h e = rw e (record { format = object_format o.settings o.state ∙ h.begun.format; formed = formed o marks h })

@@ -3,7 +3,6 @@ use Rattle.std.proofs.Common.{◌≡◌, ◌≢◌, ℕ, zero, suc, ◌+◌, ◌
 use Rattle.std.proofs.lemmas.Bool.Decides.{eqb_tells}
 use Rattle.std.proofs.lemmas.List.Elements.{All-nil, All-push, All-weaker}
 use Rattle.std.proofs.lemmas.List.Folds.{list_any-append}
-use Rattle.std.proofs.lemmas.List.FromFn.{map-range_with_len_more}
 use Rattle.std.specs.List.{All, list_any}
 use Rattle.ir_core.specs.Moments.{moments}
 use Rattle.ir_core.specs.Target.{Target}
@@ -12,16 +11,17 @@ use Rattle.ir_core.specs.declared.target.BinaryFormat.TheVariants.{Elf, Coff, Ma
 use Rattle.ir_core.specs.declared.target.Architecture.{Architecture}
 use Rattle.ir_core.proofs.MomentLaws.{moments-end}
 use Rattle.cranelift_module.specs.declared.identifiers.FuncOrDataId.{FuncOrDataId}
-use Rattle.cranelift_module.specs.declared.identifiers.FuncOrDataId.TheVariants.{Func}
-use Rattle.cranelift_module.specs.Rows.{FunctionRow, functions_of, objects_of, creation}
+use Rattle.cranelift_module.specs.declared.identifiers.FuncOrDataId.TheVariants.{Func, Data}
+use Rattle.cranelift_module.specs.Rows.{FunctionRow, DataRow, functions_of, objects_of, creation}
 use Rattle.cranelift_module.specs.Definitions.{Definition, definitions_of}
 use Rattle.cranelift_module.specs.Declarations.{DeclarationLists}
 use Rattle.cranelift_module.specs.LinkState.{LinkState, state_of}
 use Rattle.cranelift_module.specs.Refusal.{is_same_identifier}
 use Rattle.cranelift_object.specs.Settings.{Settings}
 use Rattle.cranelift_object.specs.Opened.{OpenModule, function_definition}
-use Rattle.cranelift_object.specs.Kept.{IsBegun, IsBody, IsFirst, IsName, IsModule}
+use Rattle.cranelift_object.specs.Kept.{IsBegun, IsBody, IsFirst, IsName, IsModule, Marks}
 use Rattle.cranelift_object.specs.Part.{is_supported}
+use Rattle.cranelift_object.proofs.CreationLaws.{numbered-function, numbered-data}
 
 -- a pair that is built and isn't Mach-O is ELF
 pub supported_elf : (architecture : Architecture) (format : BinaryFormat) → is_supported architecture format ≡ true → format ≢ Macho → format ≡ Elf
@@ -39,25 +39,31 @@ pub state_of_none : (target : Target) → no_calls target ≡ state_of target []
 unfolding state_of functions_of objects_of creation definitions_of moments
 state_of_none target = refl
 
-pub kept_none : (settings : Settings) (target : Target) → IsBegun (record { settings = settings; target = target }) → IsModule (record { settings = settings; state = no_calls target }) []
+pub kept_none : (settings : Settings) (target : Target) → IsBegun (record { settings = settings; target = target }) → IsModule (record { settings = settings; state = no_calls target }) (record { functions = []; objects = [] })
 unfolding moments
 kept_none settings target h =
     record {
       begun = h;
-      no_objects = refl;
       names = All-nil (λ (row : FunctionRow). IsName row.name);
+      object_names = All-nil (λ (row : DataRow). IsName row.name);
       few = omega arith;
-      order = refl;
+      few_objects = omega arith;
+      order = (refl, refl);
       bodies = All-nil (IsBody 0);
       apart = All-nil IsFirst;
       marked = refl;
       marking = λ k. refl;
+      marked_objects = refl;
+      marking_objects = λ k. refl;
     }
 
--- -- one more function
+-- -- one more function or data object
 
 abbrev pub with_function : OpenModule → FunctionRow → OpenModule
 with_function o row = record o { state = record o.state { functions = o.state.functions ++ row ∷ []; created = o.state.created ++ Func (length o.state.functions) ∷ [] } }
+
+abbrev pub with_data : OpenModule → DataRow → OpenModule
+with_data o row = record o { state = record o.state { objects = o.state.objects ++ row ∷ []; created = o.state.created ++ Data (length o.state.objects) ∷ [] } }
 
 false_past : (marks : List Bool) (k : ℕ) → get_or (marks ++ false ∷ []) k false ≡ get_or marks k false
 false_past [] zero = refl
@@ -68,45 +74,95 @@ false_past (m ∷ marks) (suc k) = false_past marks k
 IsBody-more : (count more : ℕ) (d : Definition) → count ≤ more → IsBody count d → IsBody more d
 IsBody-more count more d h b = let below : b.function < count = b.declared in record { function = b.function; contents = b.contents; declared = omega arith; small = b.small; is = b.is }
 
-pub kept_declared : (o : OpenModule) (marks : List Bool) (row : FunctionRow) → IsModule o marks → IsName row.name → length o.state.functions < 4294967295 → IsModule (with_function o row) (marks ++ false ∷ [])
+pub kept_declared : (o : OpenModule) (marks : Marks) (row : FunctionRow) → IsModule o marks → IsName row.name → length o.state.functions < 4294967295 → IsModule (with_function o row) (record marks { functions = marks.functions ++ false ∷ [] })
 kept_declared o marks row h name few =
     let n : ℕ = length o.state.functions in
     let longer : length (o.state.functions ++ row ∷ []) ≡ n + 1 = length-append o.state.functions (row ∷ []) in
     let more : n ≤ length (o.state.functions ++ row ∷ []) = omega arith in
     record {
       begun = h.begun;
-      no_objects = h.no_objects;
       names = All-push (λ (r : FunctionRow). IsName r.name) o.state.functions row h.names name;
+      object_names = h.object_names;
       few = omega arith;
-      order = rw (longer, map-range_with_len_more (λ k. Func k) 0 n n (omega arith), h.order) refl;
+      few_objects = h.few_objects;
+      order = rw longer (numbered-function 0 0 n (length o.state.objects) o.state.created h.order);
       bodies = All-weaker (IsBody n) (IsBody (length (o.state.functions ++ row ∷ []))) (λ d b. IsBody-more n (length (o.state.functions ++ row ∷ [])) d more b) o.state.definitions h.bodies;
       apart = h.apart;
-      marked = length-append marks (false ∷ []) ∙ ap (λ count. count + 1) h.marked ∙ sym longer;
-      marking = λ k. false_past marks k ∙ h.marking k;
+      marked = length-append marks.functions (false ∷ []) ∙ ap (λ count. count + 1) h.marked ∙ sym longer;
+      marking = λ k. false_past marks.functions k ∙ h.marking k;
+      marked_objects = h.marked_objects;
+      marking_objects = h.marking_objects;
+    }
+
+pub kept_data : (o : OpenModule) (marks : Marks) (row : DataRow) → IsModule o marks → IsName row.name → length o.state.objects < 4294967295 → IsModule (with_data o row) (record marks { objects = marks.objects ++ false ∷ [] })
+kept_data o marks row h name few =
+    let n : ℕ = length o.state.objects in
+    let longer : length (o.state.objects ++ row ∷ []) ≡ n + 1 = length-append o.state.objects (row ∷ []) in
+    record {
+      begun = h.begun;
+      names = h.names;
+      object_names = All-push (λ (r : DataRow). IsName r.name) o.state.objects row h.object_names name;
+      few = h.few;
+      few_objects = omega arith;
+      order = rw longer (numbered-data 0 0 (length o.state.functions) n o.state.created h.order);
+      bodies = h.bodies;
+      apart = h.apart;
+      marked = h.marked;
+      marking = h.marking;
+      marked_objects = length-append marks.objects (false ∷ []) ∙ ap (λ count. count + 1) h.marked_objects ∙ sym longer;
+      marking_objects = λ k. false_past marks.objects k ∙ h.marking_objects k;
     }
 
 -- a module with one more function
-pub kept_more : (o : OpenModule) (marks noted : List Bool) (row : FunctionRow) (lists : DeclarationLists) (created : List FuncOrDataId) (id : ℕ) → IsModule o marks → IsName row.name → length o.state.functions < 4294967295
-    → lists ≡ record { functions = o.state.functions ++ row ∷ []; objects = o.state.objects } → id ≡ length o.state.functions → created ≡ o.state.created ++ Func id ∷ [] → noted ≡ marks ++ false ∷ []
-    → IsModule (record { settings = o.settings; state = record { target = o.state.target; functions = lists.functions; objects = lists.objects; created = created; definitions = o.state.definitions } }) noted
+pub kept_more : (o : OpenModule) (marks : Marks) (noted : List Bool) (row : FunctionRow) (lists : DeclarationLists) (created : List FuncOrDataId) (id : ℕ) → IsModule o marks → IsName row.name → length o.state.functions < 4294967295
+    → lists ≡ record { functions = o.state.functions ++ row ∷ []; objects = o.state.objects } → id ≡ length o.state.functions → created ≡ o.state.created ++ Func id ∷ [] → noted ≡ marks.functions ++ false ∷ []
+    → IsModule (record { settings = o.settings; state = record { target = o.state.target; functions = lists.functions; objects = lists.objects; created = created; definitions = o.state.definitions } }) (record { functions = noted; objects = marks.objects })
 kept_more o marks noted row lists created id h name few e f g k = rw (e, g, k, f) (kept_declared o marks row h name few)
 
--- -- functions that are declared again
+-- a module with one more data object
+pub kept_more_data : (o : OpenModule) (marks : Marks) (noted : List Bool) (row : DataRow) (lists : DeclarationLists) (created : List FuncOrDataId) (id : ℕ) → IsModule o marks → IsName row.name → length o.state.objects < 4294967295
+    → lists ≡ record { functions = o.state.functions; objects = o.state.objects ++ row ∷ [] } → id ≡ length o.state.objects → created ≡ o.state.created ++ Data id ∷ [] → noted ≡ marks.objects ++ false ∷ []
+    → IsModule (record { settings = o.settings; state = record { target = o.state.target; functions = lists.functions; objects = lists.objects; created = created; definitions = o.state.definitions } }) (record { functions = marks.functions; objects = noted })
+kept_more_data o marks noted row lists created id h name few e f g k = rw (e, g, k, f) (kept_data o marks row h name few)
+
+-- -- functions and data objects that are declared again
 
 -- a module with functions of the same names
-pub kept_raised : (o : OpenModule) (marks : List Bool) (lists : DeclarationLists) → IsModule o marks → length lists.functions ≡ length o.state.functions → All (λ (row : FunctionRow). IsName row.name) lists.functions → lists.objects ≡ o.state.objects
+pub kept_raised : (o : OpenModule) (marks : Marks) (lists : DeclarationLists) → IsModule o marks → length lists.functions ≡ length o.state.functions → All (λ (row : FunctionRow). IsName row.name) lists.functions → lists.objects ≡ o.state.objects
     → IsModule (record { settings = o.settings; state = record { target = o.state.target; functions = lists.functions; objects = lists.objects; created = o.state.created; definitions = o.state.definitions } }) marks
 kept_raised o marks lists h same names objects =
     record {
       begun = h.begun;
-      no_objects = objects ∙ h.no_objects;
       names = names;
+      object_names = rw objects h.object_names;
       few = rw same h.few;
-      order = rw same h.order;
+      few_objects = rw objects h.few_objects;
+      order = rw (same, objects) h.order;
       bodies = rw same h.bodies;
       apart = h.apart;
       marked = h.marked ∙ sym same;
       marking = h.marking;
+      marked_objects = rw objects h.marked_objects;
+      marking_objects = h.marking_objects;
+    }
+
+-- a module with data objects of the same names
+pub kept_raised_data : (o : OpenModule) (marks : Marks) (lists : DeclarationLists) → IsModule o marks → length lists.objects ≡ length o.state.objects → All (λ (row : DataRow). IsName row.name) lists.objects → lists.functions ≡ o.state.functions
+    → IsModule (record { settings = o.settings; state = record { target = o.state.target; functions = lists.functions; objects = lists.objects; created = o.state.created; definitions = o.state.definitions } }) marks
+kept_raised_data o marks lists h same names functions =
+    record {
+      begun = h.begun;
+      names = rw functions h.names;
+      object_names = names;
+      few = rw functions h.few;
+      few_objects = rw same h.few_objects;
+      order = rw (same, functions) h.order;
+      bodies = rw functions h.bodies;
+      apart = h.apart;
+      marked = rw functions h.marked;
+      marking = h.marking;
+      marked_objects = h.marked_objects ∙ sym same;
+      marking_objects = h.marking_objects;
     }
 
 -- -- one more definition
@@ -130,25 +186,32 @@ marking_more marks ds function contents j below marking =
       | inr e ↦ rw (list_any-append, e.0, or_false (list_any (λ (d : Definition). is_same_identifier (Func j) d.identifier) ds), ← marking j) (get_or-set_other marks function j true false e.1)
     ]
 
-pub kept_defined : (o : OpenModule) (marks : List Bool) (function : ℕ) (contents : List ℕ) → IsModule o marks → function < length o.state.functions → get_or marks function false ≡ false → length contents < 2 ^ 63 → IsModule (with_definition o (function_definition function contents)) (set marks function true)
+no_data_more : (ds : List Definition) (function : ℕ) (contents : List ℕ) (j : ℕ) → list_any (λ (d : Definition). is_same_identifier (Data j) d.identifier) (ds ++ function_definition function contents ∷ []) ≡ list_any (λ (d : Definition). is_same_identifier (Data j) d.identifier) ds
+no_data_more ds function contents j = rw list_any-append (or_false (list_any (λ (d : Definition). is_same_identifier (Data j) d.identifier) ds))
+
+pub kept_defined : (o : OpenModule) (marks : Marks) (function : ℕ) (contents : List ℕ) → IsModule o marks → function < length o.state.functions → get_or marks.functions function false ≡ false → length contents < 2 ^ 63
+    → IsModule (with_definition o (function_definition function contents)) (record marks { functions = set marks.functions function true })
 kept_defined o marks function contents h below free small =
     let d : Definition = function_definition function contents in
-    let in' : function < length marks = rw h.marked below in
+    let in' : function < length marks.functions = rw h.marked below in
     let body : IsBody (length o.state.functions) d = record { function = function; contents = contents; declared = below; small = small; is = refl } in
     record {
       begun = h.begun;
-      no_objects = h.no_objects;
       names = h.names;
+      object_names = h.object_names;
       few = h.few;
+      few_objects = h.few_objects;
       order = h.order;
       bodies = All-push (IsBody (length o.state.functions)) o.state.definitions d h.bodies body;
       apart = rw (moments-end o.state.definitions d) (All-push IsFirst (moments o.state.definitions) (record { before = o.state.definitions; here = d }) h.apart (sym (h.marking function) ∙ free));
-      marked = length-set marks function true ∙ h.marked;
-      marking = λ j. marking_more marks o.state.definitions function contents j in' h.marking;
+      marked = length-set marks.functions function true ∙ h.marked;
+      marking = λ j. marking_more marks.functions o.state.definitions function contents j in' h.marking;
+      marked_objects = h.marked_objects;
+      marking_objects = λ j. h.marking_objects j ∙ sym (no_data_more o.state.definitions function contents j);
     }
 
 -- a module with one more definition
-pub kept_body : (o : OpenModule) (marks : List Bool) (d : Definition) (definitions : List Definition) (function i : ℕ) (contents : List ℕ) → IsModule o marks → function < length o.state.functions → get_or marks function false ≡ false → length contents < 2 ^ 63
+pub kept_body : (o : OpenModule) (marks : Marks) (d : Definition) (definitions : List Definition) (function i : ℕ) (contents : List ℕ) → IsModule o marks → function < length o.state.functions → get_or marks.functions function false ≡ false → length contents < 2 ^ 63
     → d ≡ function_definition function contents → definitions ≡ o.state.definitions ++ d ∷ [] → i ≡ function
-    → IsModule (record { settings = o.settings; state = record { target = o.state.target; functions = o.state.functions; objects = o.state.objects; created = o.state.created; definitions = definitions } }) (set marks i true)
+    → IsModule (record { settings = o.settings; state = record { target = o.state.target; functions = o.state.functions; objects = o.state.objects; created = o.state.created; definitions = definitions } }) (record { functions = set marks.functions i true; objects = marks.objects })
 kept_body o marks d definitions function i contents h below free small e f g = rw (f, e, g) (kept_defined o marks function contents h below free small)

@@ -1,6 +1,6 @@
 -- The calls that commands stand for.
 use Rattle.std.specs.Prelude.{◌≡◌, ℕ, ◌+◌, Bool, true, false, List, [], ◌∷◌, Option, Some, None, option_map, IfSome}
-use Rattle.cranelift_module.specs.Call.{Call, declare_function, declare_anonymous_function, define_function}
+use Rattle.cranelift_module.specs.Call.{Call, declare_function, declare_anonymous_function, declare_data, declare_anonymous_data, define_function}
 use Rattle.std.specs.Option.{option_or}
 use Rattle.cranelift_module.specs.declared.error.ModuleError.{ModuleError}
 use Rattle.cranelift_module.specs.LinkState.{LinkState, step}
@@ -12,6 +12,12 @@ abbrev pub makes_function : Call → Bool
 makes_function (declare_function name linkage signature) = true
 makes_function (declare_anonymous_function signature) = true
 makes_function _ = false
+
+-- the call declares a data object
+abbrev pub makes_data : Call → Bool
+makes_data (declare_data name linkage writable tls) = true
+makes_data (declare_anonymous_data writable tls) = true
+makes_data _ = false
 
 -- a definition has alignment 1 and no relocations
 abbrev pub IsPlainCall : Call → Type 0

@@ -1,10 +1,11 @@
--- What holds of every module that can be made: functions alone are declared, and defined by bytes alone.
-use Rattle.std.specs.Prelude.{◌≡◌, ℕ, ◌<◌, ◌≤◌, ◌^◌, Bool, false, List, [], map, length, slice_index_or, Option, Some, None}
-use Rattle.std.specs.List.{All, list_any, range_with_len}
+-- What holds of every module that can be made: functions alone are defined, by bytes alone.
+use Rattle.std.specs.Prelude.{◌≡◌, ℕ, ◌+◌, ◌<◌, ◌≤◌, ◌^◌, Bool, false, List, [], ◌∷◌, length, slice_index_or, Option, Some, None}
+use Rattle.std.specs.List.{All, list_any}
 use Rattle.ir_core.specs.Moments.{Moment, moments}
 use Rattle.ir_core.specs.declared.target.BinaryFormat.TheVariants.{Elf}
-use Rattle.cranelift_module.specs.declared.identifiers.FuncOrDataId.TheVariants.{Func}
-use Rattle.cranelift_module.specs.Rows.{FunctionRow}
+use Rattle.cranelift_module.specs.declared.identifiers.FuncOrDataId.{FuncOrDataId}
+use Rattle.cranelift_module.specs.declared.identifiers.FuncOrDataId.TheVariants.{Func, Data}
+use Rattle.cranelift_module.specs.Rows.{FunctionRow, DataRow}
 use Rattle.cranelift_module.specs.Definitions.{Definition}
 use Rattle.cranelift_module.specs.Refusal.{is_same_identifier, zero_byte}
 use Rattle.cranelift_object.specs.Opened.{BuilderData, OpenModule, function_definition}
@@ -31,13 +32,27 @@ IsName (Some name) = zero_byte name ≡ None
 abbrev pub IsFirst : Moment Definition → Type 0
 IsFirst m = list_any (λ (d : Definition). is_same_identifier m.here.identifier d.identifier) m.before ≡ false
 
-pub record IsModule (o : OpenModule) (marks : List Bool) : Type 0 where
+-- identifiers that are each the next number of its kind, from the first two numbers on up to the last two
+abbrev pub IsNumbered : ℕ → ℕ → List FuncOrDataId → ℕ → ℕ → Type 0
+IsNumbered functions objects [] all_functions all_objects = (functions ≡ all_functions) × (objects ≡ all_objects)
+IsNumbered functions objects (Func k ∷ ids) all_functions all_objects = (k ≡ functions) × IsNumbered (functions + 1) objects ids all_functions all_objects
+IsNumbered functions objects (Data k ∷ ids) all_functions all_objects = (k ≡ objects) × IsNumbered functions (objects + 1) ids all_functions all_objects
+
+-- for each function and each data object by number, whether it has a definition
+pub record Marks : Type 0 where
+  pub functions : List Bool
+  pub objects : List Bool
+
+pub record IsModule (o : OpenModule) (marks : Marks) : Type 0 where
   pub begun : IsBegun (record { settings = o.settings; target = o.state.target })
-  pub no_objects : o.state.objects ≡ []
   pub names : All (λ (row : FunctionRow). IsName row.name) o.state.functions
+  pub object_names : All (λ (row : DataRow). IsName row.name) o.state.objects
   pub few : length o.state.functions ≤ 4294967295
-  pub order : o.state.created ≡ map (λ n. Func n) (range_with_len 0 (length o.state.functions))
+  pub few_objects : length o.state.objects ≤ 4294967295
+  pub order : IsNumbered 0 0 o.state.created (length o.state.functions) (length o.state.objects)
   pub bodies : All (IsBody (length o.state.functions)) o.state.definitions
   pub apart : All IsFirst (moments o.state.definitions)
-  pub marked : length marks ≡ length o.state.functions
-  pub marking : (k : ℕ) → slice_index_or marks k false ≡ list_any (λ (d : Definition). is_same_identifier (Func k) d.identifier) o.state.definitions
+  pub marked : length marks.functions ≡ length o.state.functions
+  pub marking : (k : ℕ) → slice_index_or marks.functions k false ≡ list_any (λ (d : Definition). is_same_identifier (Func k) d.identifier) o.state.definitions
+  pub marked_objects : length marks.objects ≡ length o.state.objects
+  pub marking_objects : (k : ℕ) → slice_index_or marks.objects k false ≡ list_any (λ (d : Definition). is_same_identifier (Data k) d.identifier) o.state.definitions

@@ -3,16 +3,16 @@
 ghost use Rattle.std.specs.Prelude.{◌≡◌, ◌≢◌, refl, ◌<◌, ◌++◌, ◌∷◌, ℕ, [], false, vec_len, vec_capacity, None, Some, length, IfOk, IfErr, OnOk, OnErr};
 ghost use Rattle.std.proofs.Common.{◌∙◌};
 ghost use Rattle.std.specs.List.{position_from};
-ghost use Rattle.cranelift_module.specs.LinkState.{LinkState, state_of, is_function_named};
+ghost use Rattle.cranelift_module.specs.LinkState.{LinkState, state_of, is_function_named, is_data_named};
 ghost use Rattle.cranelift_module.specs.IsCall.{IsCall};
 ghost use Rattle.cranelift_module.specs.Call as calls;
 ghost use Rattle.cranelift_module.specs.Refusal.{Tells, is_defined};
-ghost use Rattle.cranelift_module.specs.declared.identifiers.FuncOrDataId.TheVariants.{Func};
+ghost use Rattle.cranelift_module.specs.declared.identifiers.FuncOrDataId.TheVariants.{Func, Data};
 
 use crate::ObjectBuilder;
 use crate::definition::Definition;
 use cranelift_module::{
-    FuncId, FuncOrDataId, Linkage, Module, ModuleDeclarations, ModuleReloc, ModuleResult,
+    DataId, FuncId, FuncOrDataId, Linkage, Module, ModuleDeclarations, ModuleReloc, ModuleResult,
     check_definable, check_no_zero_byte,
 };
 use ir_core::{Signature, TargetIsa};
@@ -26,6 +26,7 @@ pub struct ObjectModule {
     pub(crate) created: Vec<FuncOrDataId>,
     pub(crate) definitions: Vec<Definition>,
     pub(crate) defined: Vec<bool>,
+    pub(crate) defined_objects: Vec<bool>,
 }
 
 impl Model for ObjectModule {
@@ -37,7 +38,7 @@ impl Model for ObjectModule {
 
     ghost view = { λ m. record { settings = m.builder.settings; state = record { target = m.builder.target; functions = m.declarations.functions; objects = m.declarations.objects; created = m.created.items; definitions = m.definitions.items } } };
 
-    ghost invariant = { λ m. IsModule (record { settings = m.builder.settings; state = record { target = m.builder.target; functions = m.declarations.functions; objects = m.declarations.objects; created = m.created.items; definitions = m.definitions.items } }) m.defined.items };
+    ghost invariant = { λ m. IsModule (record { settings = m.builder.settings; state = record { target = m.builder.target; functions = m.declarations.functions; objects = m.declarations.objects; created = m.created.items; definitions = m.definitions.items } }) (record { functions = m.defined.items; objects = m.defined_objects.items }) };
 }
 
 impl ObjectModule {
@@ -54,6 +55,7 @@ impl ObjectModule {
             created: Vec::new(alloc),
             definitions: Vec::new(alloc),
             defined: Vec::new(alloc),
+            defined_objects: Vec::new(alloc),
         })
     }
 
@@ -63,6 +65,16 @@ impl ObjectModule {
     {
         self.defined
             .get(function.as_u32() as usize)
+            .copied()
+            .unwrap_or(false)
+    }
+
+    // Whether a data object has a definition.
+    pub(crate) fn is_object_defined(&self, object: DataId) -> bool
+        ensures { result ≡ is_defined (self.now).state (Data object) }
+    {
+        self.defined_objects
+            .get(object.as_u32() as usize)
             .copied()
             .unwrap_or(false)
     }
@@ -102,7 +114,12 @@ impl Module for ObjectModule {
             Err(error) => return Err(error),
         };
         let id = declared.0;
-        note_new(&mut self.created, &mut self.defined, id);
+        note_new(
+            &mut self.created,
+            &mut self.defined,
+            FuncOrDataId::Func(id),
+            id.as_u32(),
+        );
         Ok(id)
     }
 
@@ -111,7 +128,47 @@ impl Module for ObjectModule {
         self.created.reserve(1)?;
         self.defined.reserve(1)?;
         let id = self.declarations.declare_anonymous_function(signature)?;
-        note_function(&mut self.created, &mut self.defined, id);
+        note(&mut self.created, &mut self.defined, FuncOrDataId::Func(id));
+        Ok(id)
+    }
+
+    #[tactic(auto, unfolding(cranelift_module::specs::LinkState::step, cranelift_module::specs::Refusal::refusal))]
+    fn declare_data(
+        &mut self,
+        name: &str,
+        linkage: Linkage,
+        writable: bool,
+        tls: bool,
+    ) -> ModuleResult<DataId> {
+        if let Err(error) = check_no_zero_byte(name.as_bytes()) {
+            return Err(error);
+        }
+        self.created.reserve(1)?;
+        self.defined_objects.reserve(1)?;
+        let declared = match self.declarations.declare_data(name, linkage, writable, tls) {
+            Ok(declared) => declared,
+            Err(error) => return Err(error),
+        };
+        let id = declared.0;
+        note_new(
+            &mut self.created,
+            &mut self.defined_objects,
+            FuncOrDataId::Data(id),
+            id.as_u32(),
+        );
+        Ok(id)
+    }
+
+    #[tactic(auto, unfolding(cranelift_module::specs::LinkState::step, cranelift_module::specs::Refusal::refusal))]
+    fn declare_anonymous_data(&mut self, writable: bool, tls: bool) -> ModuleResult<DataId> {
+        self.created.reserve(1)?;
+        self.defined_objects.reserve(1)?;
+        let id = self.declarations.declare_anonymous_data(writable, tls)?;
+        note(
+            &mut self.created,
+            &mut self.defined_objects,
+            FuncOrDataId::Data(id),
+        );
         Ok(id)
     }
 
@@ -141,26 +198,26 @@ impl Module for ObjectModule {
     }
 }
 
-// Notes a function, where no function of its number was noted. Room was made before.
-fn note_new(created: &mut Vec<FuncOrDataId>, defined: &mut Vec<bool>, id: FuncId)
+// Notes an identifier, where none of its number was noted. Room was made before.
+fn note_new(created: &mut Vec<FuncOrDataId>, defined: &mut Vec<bool>, id: FuncOrDataId, number: u32)
     requires created { vec_len created.old < vec_capacity created.old }
     requires defined { vec_len defined.old < vec_capacity defined.old }
-    ensures new { id ≡ length defined.old.items → (created.new.items ≡ created.old.items ++ Func id ∷ []) × (defined.new.items ≡ defined.old.items ++ false ∷ []) }
-    ensures known { id ≢ length defined.old.items → (created.new.items ≡ created.old.items) × (defined.new.items ≡ defined.old.items) }
+    ensures new { number ≡ length defined.old.items → (created.new.items ≡ created.old.items ++ id ∷ []) × (defined.new.items ≡ defined.old.items ++ false ∷ []) }
+    ensures known { number ≢ length defined.old.items → (created.new.items ≡ created.old.items) × (defined.new.items ≡ defined.old.items) }
 {
-    if id.as_u32() as usize == defined.len() {
-        note_function(created, defined, id);
+    if number as usize == defined.len() {
+        note(created, defined, id);
     }
 }
 
-// A new function has no definition. Room for both was made before.
-fn note_function(created: &mut Vec<FuncOrDataId>, defined: &mut Vec<bool>, id: FuncId)
+// A new identifier has no definition. Room for both was made before.
+fn note(created: &mut Vec<FuncOrDataId>, defined: &mut Vec<bool>, id: FuncOrDataId)
     requires created { vec_len created.old < vec_capacity created.old }
     requires defined { vec_len defined.old < vec_capacity defined.old }
-    ensures created { created.new.items ≡ created.old.items ++ Func id ∷ [] }
+    ensures created { created.new.items ≡ created.old.items ++ id ∷ [] }
     ensures defined { defined.new.items ≡ defined.old.items ++ false ∷ [] }
 {
-    if created.push(FuncOrDataId::Func(id)).is_err() || defined.push(false).is_err() {
+    if created.push(id).is_err() || defined.push(false).is_err() {
         unreachable!()
     }
 }

@@ -5,7 +5,7 @@ ghost use Rattle.std.specs.List.{All};
 ghost use Rattle.cranelift_module.specs.LinkState.{LinkState, steps, state_of};
 ghost use Rattle.cranelift_module.specs.IsCall.{IsCall};
 ghost use Rattle.cranelift_module.specs.Refusal.{Tells, refusal};
-ghost use Rattle.cranelift_object.specs.Commands.{command_view, makes_function, IsPlainCall, first_refusal, TellsAt};
+ghost use Rattle.cranelift_object.specs.Commands.{command_view, makes_function, makes_data, IsPlainCall, first_refusal, TellsAt};
 ghost use Rattle.cranelift_object.specs.Settings.{plain_settings};
 ghost use Rattle.ir_core.specs.Target.{Target};
 ghost use Rattle.cranelift_object.specs.Part.{first_refused, TellsCall};
@@ -17,7 +17,7 @@ use ir_core::{Signature, TargetIsa};
 use std::alloc::{AllocError, Global};
 use std::marker::Model;
 
-/// A call of a module. Data and its definitions come with a later stage.
+/// A call of a module. Definitions of data come with a later stage.
 #[derive(Debug, Drop)]
 pub enum Command {
     DeclareFunction {
@@ -27,6 +27,16 @@ pub enum Command {
     },
     DeclareAnonymousFunction {
         signature: Signature,
+    },
+    DeclareData {
+        name: String,
+        linkage: Linkage,
+        writable: bool,
+        tls: bool,
+    },
+    DeclareAnonymousData {
+        writable: bool,
+        tls: bool,
     },
     /// The alignment is in bytes.
     DefineFunction {
@@ -159,9 +169,11 @@ impl CommandPart {
 }
 
 /// Makes the calls in order, up to the first that is refused, and answers the number of that one with its refusal. The
-/// functions that are declared and those that the commands declare are together fewer than 4,294,967,295.
+/// functions that are declared and those that the commands declare are together fewer than 4,294,967,295, and so are
+/// the data objects.
 pub fn apply<M: Module>(backend: &mut M, commands: &[Command]) -> Result<(), (usize, ModuleError)>
     requires room { length (M.state backend.old).functions + count_by makes_function (map command_view commands.now) < 4294967295 }
+    requires room_for_data { length (M.state backend.old).objects + count_by makes_data (map command_view commands.now) < 4294967295 }
     requires plain { All IsPlainCall (map command_view commands.now) }
     ensures ok { OnOk result (M.state backend.new ≡ steps (M.state backend.old) (map command_view commands.now)) }
     ensures none { OnOk result (first_refusal (M.state backend.old) 0 (map command_view commands.now) ≡ None) }
@@ -182,6 +194,7 @@ pub fn apply<M: Module>(backend: &mut M, commands: &[Command]) -> Result<(), (us
 
 fn make_call<M: Module>(backend: &mut M, command: &Command) -> ModuleResult<()>
     requires room { IsTrue (makes_function (command_view command.now)) → length (M.state backend.old).functions < 4294967295 }
+    requires room_for_data { IsTrue (makes_data (command_view command.now)) → length (M.state backend.old).objects < 4294967295 }
     requires plain { IsPlainCall (command_view command.now) }
     ensures call { IsCall result (M.state backend.old) (M.state backend.new) (command_view command.now) }
     ensures keeps { M.Keeps backend.old backend.new }
@@ -197,6 +210,19 @@ fn make_call<M: Module>(backend: &mut M, command: &Command) -> ModuleResult<()>
         }
         Command::DeclareAnonymousFunction { signature } => {
             backend.declare_anonymous_function(signature)?;
+            Ok(())
+        }
+        Command::DeclareData {
+            name,
+            linkage,
+            writable,
+            tls,
+        } => {
+            backend.declare_data(name.as_str(), *linkage, *writable, *tls)?;
+            Ok(())
+        }
+        Command::DeclareAnonymousData { writable, tls } => {
+            backend.declare_anonymous_data(*writable, *tls)?;
             Ok(())
         }
         Command::DefineFunction {

@@ -1,18 +1,23 @@
 //! From a module to its object.
 
-ghost use Rattle.std.specs.Prelude.{◌≡◌, ◌<◌, ◌+◌, ◌++◌, [], length, take, Some, None, IfOk, IfErr, OnOk};
-ghost use Rattle.std.specs.List.{list_any};
-ghost use Rattle.cranelift_module.specs.Refusal.{Tells, is_defined};
-ghost use Rattle.cranelift_object.specs.EndCause.{end_cause, function_missing};
-ghost use Rattle.cranelift_object.specs.Linked.{object_of, identifier_symbol, function_symbol, scope_of, file_flags, turns_compression_off};
+ghost use Rattle.std.specs.Prelude.{◌≡◌, ◌<◌, ◌+◌, ◌++◌, [], length, map, take, Some, None, IfOk, IfErr, OnOk};
+ghost use Rattle.std.specs.List.{list_any, enumerate_from};
+ghost use Rattle.std.specs.Option.{option_or};
+ghost use Rattle.cranelift_module.specs.Refusal.{Tells, is_defined, first_cause};
+ghost use Rattle.cranelift_object.specs.EndCause.{end_cause, missing_function, missing_data, function_missing, data_missing};
+ghost use Rattle.cranelift_object.specs.Linked.{object_of, identifier_symbol, function_symbol, data_symbol, scope_of, file_flags, turns_compression_off};
 ghost use Rattle.ir_core.specs.declared.target.BinaryFormat.TheVariants.{Elf};
 ghost use Rattle.object_core.specs.Appending.{with_symbol};
-ghost use Rattle.cranelift_module.specs.declared.identifiers.FuncOrDataId.TheVariants.{Func};
-ghost use Rattle.cranelift_object.specs.Product.{begun_object, function_marks, product_of, with_function_section, function_section};
+ghost use Rattle.cranelift_module.specs.declared.identifiers.FuncOrDataId.TheVariants.{Func, Data};
+ghost use Rattle.cranelift_object.specs.Product.{begun_object, function_marks, data_marks, product_of, with_function_section, function_section};
 ghost use Rattle.cranelift_object.specs.Partial.{partial};
+ghost use Rattle.cranelift_object.specs.Marking.{with_symbols, marks_of_functions, marks_of_objects};
 
 use crate::{ObjectModule, ObjectProduct};
-use cranelift_module::{FuncId, FunctionDeclaration, Linkage, Module, ModuleError, ModuleResult};
+use cranelift_module::{
+    DataDeclaration, DataId, FuncId, FuncOrDataId, FunctionDeclaration, Linkage, Module,
+    ModuleError, ModuleResult,
+};
 use ir_core::{Architecture, Flag, TargetIsa};
 use object_core::{
     Object, SectionId, StandardSection, Symbol, SymbolId, SymbolKind, SymbolName, SymbolScope,
@@ -20,9 +25,16 @@ use object_core::{
 };
 use std::alloc::{AllocError, Global};
 
+// For each function and each data object by number its symbol, and whether it is defined.
+#[derive(Drop)]
+pub(crate) struct Symbols {
+    pub(crate) functions: Vec<(SymbolId, bool)>,
+    pub(crate) objects: Vec<(SymbolId, bool)>,
+}
+
 impl ObjectModule {
-    /// Makes the object of all that was declared and defined. A function that wants a definition and has none is
-    /// refused; the module is given up.
+    /// Makes the object of all that was declared and defined. A function, and then a data object, that wants a
+    /// definition and has none is refused; the module is given up.
     pub fn finish(self) -> ModuleResult<ObjectProduct>
         ensures ok { IfOk result (λ product. product ≡ product_of self.settings self.state) }
         ensures none { OnOk result (end_cause self.state ≡ None) }
@@ -32,18 +44,43 @@ impl ObjectModule {
             return Err(error);
         }
         let mut object = self.begun_object()?;
-        let functions = self.add_symbols(&mut object)?;
-        self.add_definitions(&mut object, &functions)?;
-        Ok(ObjectProduct::new(self.builder.alloc(), object, functions))
+        let symbols = self.add_symbols(&mut object)?;
+        self.add_definitions(&mut object, &symbols.functions)?;
+        Ok(ObjectProduct::new(object, symbols.functions, symbols.objects))
     }
 
-    // Refuses the first function that wants a definition and has none.
+    // Refuses the first function, or else the first data object, that wants a definition and has none.
     fn check_finished(&self) -> ModuleResult<()>
         ensures none { OnOk result (end_cause (self.now).state ≡ None) }
         ensures cause { IfErr result (λ e. Tells e (end_cause (self.now).state)) }
     {
+        if let Err(error) = self.check_functions() {
+            return Err(error);
+        }
+        self.check_objects()
+    }
+
+    // Refuses the first function that wants a definition and has none. Behind these stand data objects alone.
+    fn check_functions(&self) -> ModuleResult<()>
+        ensures parts { end_cause (self.now).state ≡ option_or (first_cause (map (missing_function (self.now).state) (enumerate_from 0 (self.now).state.functions))) (first_cause (map (missing_data (self.now).state) (enumerate_from 0 (self.now).state.objects))) }
+        ensures none { OnOk result (first_cause (map (missing_function (self.now).state) (enumerate_from 0 (self.now).state.functions)) ≡ None) }
+        ensures cause { IfErr result (λ e. Tells e (first_cause (map (missing_function (self.now).state) (enumerate_from 0 (self.now).state.functions)))) }
+    {
         for number in 0..self.defined.len() {
             if let Err(error) = self.check_function(FuncId::from_u32(number as u32)) {
+                return Err(error);
+            }
+        }
+        Ok(())
+    }
+
+    // Refuses the first data object that wants a definition and has none.
+    fn check_objects(&self) -> ModuleResult<()>
+        ensures none { OnOk result (first_cause (map (missing_data (self.now).state) (enumerate_from 0 (self.now).state.objects)) ≡ None) }
+        ensures cause { IfErr result (λ e. Tells e (first_cause (map (missing_data (self.now).state) (enumerate_from 0 (self.now).state.objects)))) }
+    {
+        for number in 0..self.defined_objects.len() {
+            if let Err(error) = self.check_object(DataId::from_u32(number as u32)) {
                 return Err(error);
             }
         }
@@ -65,6 +102,21 @@ impl ObjectModule {
         Err(ModuleError::MissingDefinition(name))
     }
 
+    // Refuses a data object that wants a definition and has none.
+    fn check_object(&self, id: DataId) -> ModuleResult<()>
+        requires { id < length (self.now).state.objects }
+        ensures none { OnOk result (data_missing (self.now).state id ≡ None) }
+        ensures cause { IfErr result (λ e. Tells e (data_missing (self.now).state id)) }
+    {
+        let object = self.declarations.get_data_decl(id);
+        if !object.linkage().requires_definition() || self.is_object_defined(id) {
+            return Ok(());
+        }
+        let alloc = self.builder.alloc();
+        let name = object.linkage_name(alloc, id)?.into_owned(alloc)?;
+        Err(ModuleError::MissingDefinition(name))
+    }
+
     // The object with the symbol of the file's name alone.
     fn begun_object(&self) -> Result<Object, AllocError>
         ensures { IfOk result (λ object. object ≡ begun_object (self.now).settings (self.now).state) }
@@ -81,19 +133,50 @@ impl ObjectModule {
         Ok(object)
     }
 
-    // Adds an undefined symbol for each identifier in order of creation. The answer is the symbol of each function by
-    // number, with whether it is defined.
-    fn add_symbols(&self, object: &mut Object) -> Result<Vec<(SymbolId, bool)>, AllocError>
+    // Adds an undefined symbol for each identifier in order of creation. The answer is the symbol of each function and
+    // each data object by number, with whether it is defined.
+    fn add_symbols(&self, object: &mut Object) -> Result<Symbols, AllocError>
         requires { object.old ≡ begun_object (self.now).settings (self.now).state }
         ensures symbols { OnOk result (object.new ≡ partial (self.now).settings (self.now).state []) }
-        ensures functions { IfOk result (λ rows. rows.items ≡ function_marks (self.now).state) }
+        ensures functions { IfOk result (λ symbols. symbols.functions.items ≡ function_marks (self.now).state) }
+        ensures objects { IfOk result (λ symbols. symbols.objects.items ≡ data_marks (self.now).state) }
     {
-        let mut functions = Vec::new(self.builder.alloc());
-        for number in 0..self.defined.len() {
-            let row = self.add_function(object, FuncId::from_u32(number as u32))?;
-            functions.push(row)?;
+        let mut symbols = Symbols {
+            functions: Vec::new(self.builder.alloc()),
+            objects: Vec::new(self.builder.alloc()),
+        };
+        for number in 0..self.created.len() {
+            self.add_identifier(object, &mut symbols, number)?;
         }
-        Ok(functions)
+        Ok(symbols)
+    }
+
+    // Adds the undefined symbol of the identifier that was created at this number, behind those before it.
+    fn add_identifier(
+        &self,
+        object: &mut Object,
+        symbols: &mut Symbols,
+        number: usize,
+    ) -> Result<(), AllocError>
+        requires number { number < length (self.now).state.created }
+        requires object { object.old ≡ with_symbols self.now number }
+        requires functions { symbols.old.functions.items ≡ marks_of_functions (self.now).state (take number (self.now).state.created) }
+        requires objects { symbols.old.objects.items ≡ marks_of_objects (self.now).state (take number (self.now).state.created) }
+        ensures object { OnOk result (object.new ≡ with_symbols self.now (number + 1)) }
+        ensures functions { OnOk result (symbols.new.functions.items ≡ marks_of_functions (self.now).state (take (number + 1) (self.now).state.created)) }
+        ensures objects { OnOk result (symbols.new.objects.items ≡ marks_of_objects (self.now).state (take (number + 1) (self.now).state.created)) }
+    {
+        match self.created[number] {
+            FuncOrDataId::Func(id) => {
+                let row = self.add_function(object, id)?;
+                symbols.functions.push(row)?;
+            }
+            FuncOrDataId::Data(id) => {
+                let row = self.add_object(object, id)?;
+                symbols.objects.push(row)?;
+            }
+        }
+        Ok(())
     }
 
     // Adds the undefined symbol of a function, and answers it with whether the function is defined.
@@ -106,6 +189,18 @@ impl ObjectModule {
         let symbol = function_symbol(self.builder.alloc(), function, id)?;
         let symbol = object.add_symbol(symbol)?;
         Ok((symbol, self.is_defined(id)))
+    }
+
+    // Adds the undefined symbol of a data object, and answers it with whether the data object is defined.
+    fn add_object(&self, object: &mut Object, id: DataId) -> Result<(SymbolId, bool), AllocError>
+        requires { id < length (self.now).state.objects }
+        ensures added { OnOk result (object.new ≡ with_symbol object.old (identifier_symbol (self.now).state [] (Data id))) }
+        ensures row { IfOk result (λ row. row ≡ (length object.old.symbols, is_defined (self.now).state (Data id))) }
+    {
+        let data = self.declarations.get_data_decl(id);
+        let symbol = data_symbol(self.builder.alloc(), data, id)?;
+        let symbol = object.add_symbol(symbol)?;
+        Ok((symbol, self.is_object_defined(id)))
     }
 
     // Adds the contents of each definition, and defines its symbol there.
@@ -176,6 +271,29 @@ fn function_symbol(
         kind: SymbolKind::Text,
         scope: scope_of(function.linkage()),
         weak: matches!(function.linkage(), Linkage::Preemptible),
+        section: SymbolSection::Undefined,
+        no_dead_strip: false,
+    })
+}
+
+// The symbol of a data object before it is defined.
+fn data_symbol(alloc: Global, object: &DataDeclaration, id: DataId) -> Result<Symbol, AllocError>
+    ensures { IfOk result (λ symbol. symbol ≡ data_symbol [] id (Some object.now)) }
+{
+    let name = object.linkage_name(alloc, id)?;
+    let name = SymbolName::from_slice(alloc, name.as_str().as_bytes())?;
+    let kind = if object.tls() {
+        SymbolKind::Tls
+    } else {
+        SymbolKind::Data
+    };
+    Ok(Symbol {
+        name,
+        value: 0,
+        size: 0,
+        kind,
+        scope: scope_of(object.linkage()),
+        weak: matches!(object.linkage(), Linkage::Preemptible),
         section: SymbolSection::Undefined,
         no_dead_strip: false,
     })

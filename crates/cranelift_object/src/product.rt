@@ -1,6 +1,6 @@
 //! What a finished module gives.
 
-ghost use Rattle.std.specs.Prelude.{◌≡◌, ◌<◌, ℕ, Bool, [], Some, IfOk, length, slice_get, option_map};
+ghost use Rattle.std.specs.Prelude.{◌≡◌, ◌<◌, ℕ, Bool, Some, IfOk, length, slice_get, option_map};
 ghost use Rattle.object_core.specs.ElfRows.{elf_table_of};
 ghost use Rattle.object_elf.specs.ElfHolds.{ElfHolds};
 ghost use Rattle.object_elf.specs.Limits.{IsJudged};
@@ -35,17 +35,17 @@ impl Model for ObjectProduct {
 
 impl ObjectProduct {
     pub(crate) fn new(
-        alloc: Global,
         object: Object,
         functions: Vec<(SymbolId, bool)>,
+        data_objects: Vec<(SymbolId, bool)>,
     ) -> ObjectProduct
         requires { IsWritable object }
-        ensures { result ≡ record { object = object; functions = functions.items; data_objects = [] } }
+        ensures { result ≡ record { object = object; functions = functions.items; data_objects = data_objects.items } }
     {
         ObjectProduct {
             object,
             functions,
-            data_objects: Vec::new(alloc),
+            data_objects,
         }
     }
 

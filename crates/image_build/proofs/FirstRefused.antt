@@ -1,10 +1,10 @@
 -- The first call that is refused, picked out of the whole list, is the one at which calls in order stop.
-use Rattle.std.proofs.Common.{◌≡◌, ℕ, zero, suc, ◌+◌, ◌*◌, List, [], ◌∷◌, ◌++◌, length, take, slice_get, Option, Some, None, option_map, option_and_then, refl, ap, sym, ◌∙◌, arith, append_assoc, append-nil, length-append, add-one}
+use Rattle.std.proofs.Common.{◌≡◌, ℕ, ◌+◌, List, [], ◌∷◌, ◌++◌, length, take, slice_get, Option, Some, None, option_map, refl, ap, sym, ◌∙◌, arith, append_assoc, append-nil, length-append}
 use Rattle.std.specs.List.{range_with_len, filter_map, cons_option}
 use Rattle.std.specs.Option.{option_or}
 use Rattle.ir_core.specs.Target.{Target}
 use Rattle.cranelift_module.specs.Call.{Call}
-use Rattle.cranelift_module.specs.LinkState.{LinkState, state_of, step, steps}
+use Rattle.cranelift_module.specs.LinkState.{state_of, step, steps}
 use Rattle.cranelift_module.specs.Refusal.{Refusal, refusal}
 use Rattle.cranelift_module.proofs.StateLaws.{state_of-step}
 use Rattle.cranelift_object.specs.Commands.{first_refusal}

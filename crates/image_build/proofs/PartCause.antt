@@ -1,6 +1,6 @@
 -- The first cause of a part, found step by step, and the errors that tell it.
 use Rattle.std.proofs.Common.{◌≡◌, ℕ, ◌+◌, ◌<◌, List, [], ◌∷◌, length, count_by, arith, Option, Some, None, option_map, IfSome, refl, ap, sym, ◌∙◌, subst}
-use Rattle.std.specs.Option.{option_or, is_some, IsSomeAnd, IsSome}
+use Rattle.std.specs.Option.{IsSomeAnd, IsSome}
 use Rattle.std.proofs.lemmas.List.Sums.{count_by-le-length}
 use Rattle.object_core.specs.declared.error.EmitError.{EmitError}
 use Rattle.object_core.specs.declared.error.EmitError.TheVariants as limits
@@ -8,20 +8,20 @@ use Rattle.object_elf.specs.ElfHolds.{ElfHolds}
 use Rattle.object_elf.specs.Limits.{limit_cause, TellsLimit}
 use Rattle.object_core.specs.ElfRows.{elf_table_of}
 use Rattle.cranelift_module.specs.declared.error.ModuleError.{ModuleError}
-use Rattle.cranelift_module.specs.LinkState.{LinkState, state_of, steps}
+use Rattle.cranelift_module.specs.LinkState.{state_of, steps}
 use Rattle.cranelift_module.specs.Refusal.{Refusal, refusal_told, Tells}
 use Rattle.ir_core.specs.Target.{Target}
 use Rattle.ir_core.specs.Moments.{moments}
 use Rattle.object_core.specs.Object.{ObjectData}
 use Rattle.cranelift_module.specs.Call.{Call}
-use Rattle.cranelift_module.specs.Rows.{functions_of}
+use Rattle.cranelift_module.specs.Rows.{functions_of, objects_of}
 use Rattle.cranelift_object.specs.Settings.{Settings, plain_settings}
 use Rattle.cranelift_object.specs.Opened.{OpenModule}
-use Rattle.cranelift_object.specs.Commands.{first_refusal, TellsAt, makes_function}
+use Rattle.cranelift_object.specs.Commands.{first_refusal, TellsAt, makes_function, makes_data}
 use Rattle.cranelift_object.specs.EndCause.{end_cause}
 use Rattle.cranelift_object.specs.Linked.{object_of}
 use Rattle.cranelift_object.specs.Part.{PartData, PartRefusal, at_start, at_call, at_end, over, start_cause, first_refused, part_cause, part_state, counts, counts_of}
-use Rattle.image_build.specs.Built.{BuildPart, commands, BuildRefusal, build_cause, TellsBuild, TellsPlace, TellsCause, TellsOver}
+use Rattle.image_build.specs.Built.{commands, build_cause, TellsBuild, TellsPlace, TellsCause, TellsOver}
 use Rattle.image_build.specs.declared.error.BuildCause.{BuildCause}
 use Rattle.image_build.specs.declared.error.BuildCause.TheVariants.{Module, TooMany, TooLarge, Mixed, OutOfMemory}
 use Rattle.image_build.specs.declared.error.Place.TheVariants.{Start, Command, End}
@@ -143,6 +143,14 @@ no_functions target = refl
 pub part_room : (part : PartData) (m : OpenModule) (calls : List Call) → m ≡ record { settings = part.settings; state = state_of part.target [] } → calls ≡ part.calls → length part.calls < 4294967295
     → length m.state.functions + count_by makes_function calls < 4294967295
 part_room part m calls opened same few = rw (opened, same) (omega (arith, no_functions part.target, count_by-le-length makes_function part.calls))
+
+no_objects : (target : Target) → length (state_of target []).objects ≡ 0
+unfolding state_of objects_of moments
+no_objects target = refl
+
+pub part_room_for_data : (part : PartData) (m : OpenModule) (calls : List Call) → m ≡ record { settings = part.settings; state = state_of part.target [] } → calls ≡ part.calls → length part.calls < 4294967295
+    → length m.state.objects + count_by makes_data calls < 4294967295
+part_room_for_data part m calls opened same few = rw (opened, same) (omega (arith, no_objects part.target, count_by-le-length makes_data part.calls))
 
 pub part_call : (part : PartData) (m : OpenModule) (calls : List Call) (j : ℕ) (e : ModuleError) (c : BuildCause) → m ≡ record { settings = part.settings; state = state_of part.target [] } → start_cause part.settings part.target ≡ None → calls ≡ part.calls
     → TellsCause e c → TellsAt j e (first_refusal m.state 0 calls) → TellsBuild (record { part = 0; place = Command j; cause = c }) (build_cause (commands part ∷ []))

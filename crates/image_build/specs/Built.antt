@@ -5,7 +5,7 @@ use Rattle.object_core.specs.declared.error.EmitError.{EmitError}
 use Rattle.object_core.specs.declared.error.EmitError.TheVariants as limits
 use Rattle.cranelift_module.specs.declared.error.ModuleError.{ModuleError}
 use Rattle.object_elf.specs.ElfHolds.{ElfHolds}
-use Rattle.cranelift_module.specs.Refusal.{Refusal, refusal_told}
+use Rattle.cranelift_module.specs.Refusal.{refusal_told}
 use Rattle.cranelift_object.specs.Linked.{object_of}
 use Rattle.cranelift_object.specs.Part.{PartData, PartRefusal, at_start, at_call, at_end, over, part_state, part_cause}
 use Rattle.image_build.specs.declared.error.BuildError.{BuildError}

@@ -1,5 +1,5 @@
 -- What contracts see of the parts of a build.
-use Rattle.std.specs.Prelude.{◌≡◌, ◌≢◌, ℕ, ◌<◌, List, [], ◌∷◌, length}
+use Rattle.std.specs.Prelude.{◌≢◌, ◌<◌, List, [], ◌∷◌, length}
 use Rattle.std.specs.List.{All}
 use Rattle.ir_core.specs.declared.target.BinaryFormat.TheVariants.{Macho}
 use Rattle.cranelift_object.specs.Commands.{IsPlainCall}

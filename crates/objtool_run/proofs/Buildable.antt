@@ -1,21 +1,20 @@
 -- The parts of an input are of the form that is built so far.
-use Rattle.std.proofs.Common.{◌≡◌, ◌≢◌, ℕ, ◌<◌, List, [], ◌∷◌, length, Bool, true, false, cond, ◌&&◌, bytes_eq, codes, Option, Some, None, refl, ap, sym, ◌∙◌, subst, arith}
+use Rattle.std.proofs.Common.{◌≡◌, ℕ, List, [], ◌∷◌, Bool, true, false, cond, ◌&&◌, bytes_eq, codes, Option, Some, None, refl, sym, subst, arith}
 use Rattle.std.specs.List.{All}
 use Rattle.std.proofs.lemmas.List.Elements.{All-cons}
 use Rattle.serde_json.specs.Data.{Data, Items, item, no_items}
 use Rattle.serde_json.specs.Find.{as_array}
-use Rattle.ir_core.specs.declared.target.BinaryFormat.TheVariants.{Macho}
 use Rattle.ir_core.specs.Signature.{SignatureData}
 use Rattle.ir_core.specs.Target.{default_call_conv}
 use Rattle.ir_core.specs.declared.types.CallConv.{CallConv}
-use Rattle.cranelift_module.specs.Call.{Call, declare_function, declare_anonymous_function, define_function}
+use Rattle.cranelift_module.specs.Call.{Call, declare_function, declare_anonymous_function, declare_data, declare_anonymous_data, define_function}
 use Rattle.cranelift_module.specs.declared.linkage.Linkage.{Linkage}
 use Rattle.cranelift_object.specs.Commands.{IsPlainCall}
-use Rattle.image_build.specs.Built.{BuildPart, commands}
-use Rattle.image_build.specs.Parts.{IsBuildable, IsPlainPart}
-use Rattle.objtool_run.specs.Form.{◌>>=◌, each_of, with_keys, text_at, items_at, u32_at, hex_at, has_keys_within}
+use Rattle.image_build.specs.Built.{BuildPart}
+use Rattle.image_build.specs.Parts.{IsBuildable}
+use Rattle.objtool_run.specs.Form.{◌>>=◌, each_of, text_at, items_at, u32_at, mark_at, hex_at, has_keys_within}
 use Rattle.objtool_run.specs.SignatureForm.{signature_at}
-use Rattle.objtool_run.specs.Script.{linkage_of, declare_of, anonymous_of, define_of, command_of, commands_of, elf_target, part_of, part_with, one_part, parts_of, HasFewCalls}
+use Rattle.objtool_run.specs.Script.{linkage_of, declare_of, anonymous_of, declare_data_of, anonymous_data_of, define_of, command_of, commands_of, elf_target, part_of, part_with, one_part, parts_of, HasFewCalls}
 
 -- what two steps give, the second gives of what the first gave
 given : {A B : Type 0} (o : Option A) (f : A → Option B) (y : B) → (o >>= f) ≡ Some y → (x : A) × (o ≡ Some x) × (f x ≡ Some y)
@@ -50,6 +49,31 @@ anonymous_plain : (v : CallConv) (d : Data) (c : Call) → anonymous_of v d ≡ 
 unfolding anonymous_of
 anonymous_plain v d c h = unnamed_plain (signature_at v d) c (tested (has_keys_within (codes "op" ∷ codes "signature" ∷ []) d) _ c h)
 
+data_plain : (o p : Option (List ℕ)) (w t : Option Bool) (c : Call) → (o >>= λ name. p >>= λ text. linkage_of text >>= λ linkage. w >>= λ writable. t >>= λ tls. Some (declare_data name linkage writable tls)) ≡ Some c → IsPlainCall c
+data_plain None p w t c h = absurd (cc)
+data_plain (Some name) None w t c h = absurd (cc)
+data_plain (Some name) (Some text) w t c h = go (linkage_of text) w t h where
+  go : (l : Option Linkage) (w t : Option Bool) → (l >>= λ linkage. w >>= λ writable. t >>= λ tls. Some (declare_data name linkage writable tls)) ≡ Some c → IsPlainCall c
+  go None w t e = absurd (cc)
+  go (Some l) None t e = absurd (cc)
+  go (Some l) (Some w) None e = absurd (cc)
+  go (Some l) (Some w) (Some t) e = let same : declare_data name l w t ≡ c = cc in subst IsPlainCall same tt
+
+declare_data_plain : (d : Data) (c : Call) → declare_data_of d ≡ Some c → IsPlainCall c
+unfolding declare_data_of
+declare_data_plain d c h =
+    data_plain (text_at (codes "name") d) (text_at (codes "linkage") d) (mark_at (codes "writable") d) (mark_at (codes "tls") d) c
+    (tested (has_keys_within (codes "op" ∷ codes "name" ∷ codes "linkage" ∷ codes "writable" ∷ codes "tls" ∷ []) d) _ c h)
+
+unnamed_data_plain : (w t : Option Bool) (c : Call) → (w >>= λ writable. t >>= λ tls. Some (declare_anonymous_data writable tls)) ≡ Some c → IsPlainCall c
+unnamed_data_plain None t c h = absurd (cc)
+unnamed_data_plain (Some w) None c h = absurd (cc)
+unnamed_data_plain (Some w) (Some t) c h = let same : declare_anonymous_data w t ≡ c = cc in subst IsPlainCall same tt
+
+anonymous_data_plain : (d : Data) (c : Call) → anonymous_data_of d ≡ Some c → IsPlainCall c
+unfolding anonymous_data_of
+anonymous_data_plain d c h = unnamed_data_plain (mark_at (codes "writable") d) (mark_at (codes "tls") d) c (tested (has_keys_within (codes "op" ∷ codes "writable" ∷ codes "tls" ∷ []) d) _ c h)
+
 defined_plain : (o : Option ℕ) (p : Option (List ℕ)) (c : Call) → (o >>= λ id. p >>= λ bytes. Some (define_function id 1 bytes [])) ≡ Some c → IsPlainCall c
 defined_plain None p c h = absurd (cc)
 defined_plain (Some id) None c h = absurd (cc)
@@ -59,20 +83,19 @@ define_plain : (d : Data) (c : Call) → define_of d ≡ Some c → IsPlainCall 
 unfolding define_of
 define_plain d c h = defined_plain (u32_at (codes "id") d) (hex_at (codes "bytes") d) c (tested (has_keys_within (codes "op" ∷ codes "id" ∷ codes "bytes" ∷ []) d) _ c h)
 
-chosen_plain : (x y z : Bool) (v : CallConv) (d : Data) (c : Call) → cond x (declare_of v d) (cond y (anonymous_of v d) (cond z (define_of d) None)) ≡ Some c → IsPlainCall c
-chosen_plain true y z v d c h = declare_plain v d c h
-chosen_plain false true z v d c h = anonymous_plain v d c h
-chosen_plain false false true v d c h = define_plain d c h
-chosen_plain false false false v d c h = absurd (cc)
+chosen_plain : (x y z w u : Bool) (v : CallConv) (d : Data) (c : Call)
+    → cond x (declare_of v d) (cond y (anonymous_of v d) (cond z (declare_data_of d) (cond w (anonymous_data_of d) (cond u (define_of d) None)))) ≡ Some c → IsPlainCall c
+chosen_plain true y z w u v d c h = declare_plain v d c h
+chosen_plain false true z w u v d c h = anonymous_plain v d c h
+chosen_plain false false true w u v d c h = declare_data_plain d c h
+chosen_plain false false false true u v d c h = anonymous_data_plain d c h
+chosen_plain false false false false true v d c h = define_plain d c h
+chosen_plain false false false false false v d c h = absurd (cc)
 
 command_plain : (v : CallConv) (d : Data) (c : Call) → command_of v d ≡ Some c → IsPlainCall c
 unfolding command_of
-command_plain v d c h = go (text_at (codes "op") d) h where
-  go : (op : Option (List ℕ))
-      → (op >>= λ op. cond (bytes_eq op (codes "declare_function")) (declare_of v d) (cond (bytes_eq op (codes "declare_anonymous_function")) (anonymous_of v d) (cond (bytes_eq op (codes "define_function")) (define_of d) None))) ≡ Some c
-      → IsPlainCall c
-  go None e = absurd (cc)
-  go (Some op) e = chosen_plain (bytes_eq op (codes "declare_function")) (bytes_eq op (codes "declare_anonymous_function")) (bytes_eq op (codes "define_function")) v d c e
+command_plain v d c h = (let op = given (text_at (codes "op") d) _ c h in
+    chosen_plain (bytes_eq op.0 (codes "declare_function")) (bytes_eq op.0 (codes "declare_anonymous_function")) (bytes_eq op.0 (codes "declare_data")) (bytes_eq op.0 (codes "declare_anonymous_data")) (bytes_eq op.0 (codes "define_function")) v d c op.2)
 
 none_plain : All IsPlainCall []
 none_plain k d h = absurd (omega arith)

@@ -1,11 +1,11 @@
 -- What each end of a run says of its input.
 use Rattle.std.proofs.Common.{◌≡◌, ◌≢◌, ℕ, ◌⊎◌, inl, inr, List, Option, Some, None, IfSome, refl, sym, ◌∙◌, arith}
-use Rattle.byte_core.specs.Outside.{Outside, Appends, AppendsFront, ChangesErrors}
+use Rattle.byte_core.specs.Outside.{Outside, ChangesErrors}
 use Rattle.serde_json.specs.Data.{Data}
 use Rattle.image_build.specs.Built.{BuildPart, BuildRefusal, build_cause}
 use Rattle.objtool_run.specs.Fault.{code_of}
-use Rattle.objtool_run.specs.Script.{HasJson, HasNoJson, HasOtherForm, StandsFor, parts_of}
-use Rattle.objtool_run.specs.Run.{IsAnswer, IsRefusal, Explains, Answers, AnswersFront, Judges}
+use Rattle.objtool_run.specs.Script.{HasJson, HasNoJson, HasOtherForm, StandsFor}
+use Rattle.objtool_run.specs.Run.{Explains, Answers, AnswersFront, Judges}
 use Rattle.objtool_run.specs.declared.fault.Fault.{Fault}
 use Rattle.objtool_run.specs.declared.fault.Fault.TheVariants.{Refused, BadWords, ReadFailed, WriteFailed, OutOfMemory, NotUnderstood, TooLong, NotYet}
 

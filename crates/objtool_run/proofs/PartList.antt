@@ -1,13 +1,8 @@
 -- Lists of one part, and what their commands are.
-use Rattle.std.proofs.Common.{◌≡◌, ◌≢◌, ℕ, ◌<◌, ◌≤◌, List, [], ◌∷◌, map, length, get_or, Bool, true, false, cond, ◌&&◌, bytes_eq, codes, Option, Some, None, refl, ap, sym, ◌∙◌, arith}
-use Rattle.std.specs.List.{All}
-use Rattle.serde_json.specs.Data.{Data, Items, item, no_items}
+use Rattle.std.proofs.Common.{◌≡◌, List, [], ◌∷◌, length, get_or, Some, None, refl, arith}
 use Rattle.serde_json.specs.View.{view, items_view}
 use Rattle.serde_json.specs.declared.value.Value.{Value}
-use Rattle.cranelift_module.specs.Call.{Call, declare_function, define_function}
-use Rattle.cranelift_object.specs.Commands.{IsPlainCall}
-use Rattle.image_build.specs.Built.{BuildPart, commands}
-use Rattle.objtool_run.specs.Form.{◌>>=◌, with_keys, text_at, items_at, u32_at, hex_at, has_keys_within}
+use Rattle.image_build.specs.Built.{BuildPart}
 use Rattle.objtool_run.specs.Script.{part_of, one_part}
 
 pub one_part_refused : (vs : List Value) → (length vs ≡ 1 → ⊥) → one_part (items_view vs) ≡ None

@@ -6,7 +6,7 @@ use Rattle.std.specs.Result.{result_ok}
 use Rattle.std.specs.Str.{bytes_eq}
 use Rattle.hex.specs.Hex.{decode_of}
 use Rattle.serde_json.specs.Data.{Data, Items, no_items, item, Members, no_members, member}
-use Rattle.serde_json.specs.Find.{get, as_str, as_number, as_u64, as_object, as_array}
+use Rattle.serde_json.specs.Find.{get, as_bool, as_str, as_number, as_u64, as_object, as_array}
 use Rattle.objtool_run.specs.declared.script.form.FormError.{FormError}
 use Rattle.objtool_run.specs.declared.script.form.FormError.TheVariants.{NotForm, OutOfMemory}
 
@@ -30,6 +30,11 @@ abbrev pub keys_within : List (List ℕ) → Members → Bool
 keys_within keys no_members = true
 keys_within keys (member k d ms) = list_any (bytes_eq k) keys && keys_within keys ms
 
+-- what is read from the value under a key, or this where there is none
+abbrev pub or_else : {A : Type 0} → (Data → Option A) → A → Option Data → Option A
+or_else read missing None = Some missing
+or_else read missing (Some d) = read d
+
 -- the text, the number, the list under a key
 abbrev pub text_at : List ℕ → Data → Option (List ℕ)
 text_at key d = option_and_then as_str (get key d)
@@ -43,6 +48,10 @@ items_at key d = option_and_then as_array (get key d)
 -- a number of 32 bits
 abbrev pub u32_at : List ℕ → Data → Option ℕ
 u32_at key d = number_at key d >>= λ n. if nat_lt n (2 ^ 32) then Some n else None
+
+-- the truth value under a key, which is false where there is none
+abbrev pub mark_at : List ℕ → Data → Option Bool
+mark_at key d = or_else as_bool false (get key d)
 
 -- the bytes of a text of hexadecimal digits
 abbrev pub hex_at : List ℕ → Data → Option (List ℕ)

@@ -1,5 +1,5 @@
 -- What a run with the word `build` does with its input.
-use Rattle.std.specs.Prelude.{◌≡◌, ◌≢◌, ℕ, ◌≤◌, ◌⊎◌, List, [], ◌∷◌, ◌++◌, Option, Some, None, string_bytes}
+use Rattle.std.specs.Prelude.{◌≡◌, ◌≢◌, ℕ, ◌⊎◌, List, Some, None, string_bytes}
 use Rattle.hex.specs.Hex.{encode_lower}
 use Rattle.byte_core.specs.Count.{Rose}
 use Rattle.byte_core.specs.Outside.{Outside, Appends, AppendsFront}

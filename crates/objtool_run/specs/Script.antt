@@ -1,6 +1,5 @@
 -- The list of parts that a JSON value stands for.
-use Rattle.std.specs.Prelude.{◌≡◌, ℕ, ◌<◌, ◌==◌, ◌&&◌, Bool, true, false, not, List, [], ◌∷◌, length, slice_get, codes, if◌then◌else◌, Option, Some, None}
-use Rattle.std.specs.List.{list_any, list_all, filter_map}
+use Rattle.std.specs.Prelude.{◌≡◌, ℕ, ◌<◌, ◌&&◌, false, List, [], ◌∷◌, length, codes, if◌then◌else◌, Option, Some, None}
 use Rattle.std.specs.Str.{bytes_eq, IsUtf8}
 use Rattle.serde_json.specs.Data.{Data, Items, no_items, item}
 use Rattle.serde_json.specs.Find.{as_array}
@@ -13,11 +12,11 @@ use Rattle.ir_core.specs.declared.target.System.TheVariants as systems
 use Rattle.ir_core.specs.declared.target.Environment.TheVariants as environments
 use Rattle.cranelift_module.specs.declared.linkage.Linkage.{Linkage}
 use Rattle.cranelift_module.specs.declared.linkage.Linkage.TheVariants.{Import, Local, Preemptible, Hidden, Export}
-use Rattle.cranelift_module.specs.Call.{Call, declare_function, declare_anonymous_function, declare_data, declare_anonymous_data, define_function, define_data}
+use Rattle.cranelift_module.specs.Call.{Call, declare_function, declare_anonymous_function, declare_data, declare_anonymous_data, define_function}
 use Rattle.cranelift_module.specs.LibraryNames.{usual_texts}
 use Rattle.image_build.specs.Built.{BuildPart, commands}
 use Rattle.objtool_run.specs.SignatureForm.{signature_at}
-use Rattle.objtool_run.specs.Form.{◌>>=◌, each_of, text_at, items_at, u32_at, hex_at, with_keys}
+use Rattle.objtool_run.specs.Form.{◌>>=◌, each_of, text_at, items_at, u32_at, mark_at, hex_at, with_keys}
 
 -- -- commands
 
@@ -45,6 +44,23 @@ anonymous_of convention d = with_keys (codes "op" ∷ codes "signature" ∷ []) 
   signature ← signature_at convention d
   Some (declare_anonymous_function signature)
 
+-- a declaration of data, which is neither writable nor thread-local where it doesn't say so
+unfoldable pub declare_data_of : Data → Option Call
+declare_data_of d = with_keys (codes "op" ∷ codes "name" ∷ codes "linkage" ∷ codes "writable" ∷ codes "tls" ∷ []) d do
+  name ← text_at (codes "name") d
+  text ← text_at (codes "linkage") d
+  linkage ← linkage_of text
+  writable ← mark_at (codes "writable") d
+  tls ← mark_at (codes "tls") d
+  Some (declare_data name linkage writable tls)
+
+-- a declaration of data without a name
+unfoldable pub anonymous_data_of : Data → Option Call
+anonymous_data_of d = with_keys (codes "op" ∷ codes "writable" ∷ codes "tls" ∷ []) d do
+  writable ← mark_at (codes "writable") d
+  tls ← mark_at (codes "tls") d
+  Some (declare_anonymous_data writable tls)
+
 unfoldable pub define_of : Data → Option Call
 define_of d = with_keys (codes "op" ∷ codes "id" ∷ codes "bytes" ∷ []) d do
   id ← u32_at (codes "id") d
@@ -57,6 +73,8 @@ command_of convention d = do
   op ← text_at (codes "op") d
   if bytes_eq op (codes "declare_function") then declare_of convention d
       else if bytes_eq op (codes "declare_anonymous_function") then anonymous_of convention d
+      else if bytes_eq op (codes "declare_data") then declare_data_of d
+      else if bytes_eq op (codes "declare_anonymous_data") then anonymous_data_of d
       else if bytes_eq op (codes "define_function") then define_of d
       else None
 

@@ -1,7 +1,7 @@
 -- Signatures in their JSON form.
 use Rattle.std.specs.Prelude.{ℕ, List, [], ◌∷◌, codes, if◌then◌else◌, Option, Some, None}
 use Rattle.std.specs.Str.{bytes_eq}
-use Rattle.serde_json.specs.Data.{Data, Items, no_items, item}
+use Rattle.serde_json.specs.Data.{Data, Items}
 use Rattle.serde_json.specs.Find.{get, as_str, as_array}
 use Rattle.ir_core.specs.Signature.{SignatureData}
 use Rattle.ir_core.specs.declared.signature.AbiParam.{AbiParam}
@@ -13,12 +13,7 @@ use Rattle.ir_core.specs.declared.types.ArgumentPurpose.{ArgumentPurpose}
 use Rattle.ir_core.specs.declared.types.ArgumentPurpose.TheVariants.{Normal, StructReturn, VMContext}
 use Rattle.ir_core.specs.declared.types.CallConv.{CallConv}
 use Rattle.ir_core.specs.declared.types.CallConv.TheVariants.{Fast, Tail, SystemV, WindowsFastcall, AppleAarch64}
-use Rattle.objtool_run.specs.Form.{◌>>=◌, each_of, with_keys, text_at}
-
--- what is read from the value under a key, or this where there is none
-abbrev pub or_else : {A : Type 0} → (Data → Option A) → A → Option Data → Option A
-or_else read missing None = Some missing
-or_else read missing (Some d) = read d
+use Rattle.objtool_run.specs.Form.{◌>>=◌, each_of, or_else, with_keys, text_at}
 
 abbrev pub type_named : List ℕ → Option ValueType
 type_named text =

@@ -3,3 +3,5 @@
 
 #[cfg(test)]
 mod build_tests;
+#[cfg(test)]
+mod declaration_tests;

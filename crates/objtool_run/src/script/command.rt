@@ -4,9 +4,9 @@ ghost use Rattle.std.specs.Prelude.{◌≡◌, map, [], IfOk};
 ghost use Rattle.serde_json.specs.View.{view, items_view};
 ghost use Rattle.cranelift_object.specs.Command.{command_view};
 ghost use Rattle.objtool_run.specs.Form.{Gives};
-ghost use Rattle.objtool_run.specs.Script.{linkage_of, declare_of, anonymous_of, define_of, command_of, commands_of};
+ghost use Rattle.objtool_run.specs.Script.{linkage_of, declare_of, anonymous_of, declare_data_of, anonymous_data_of, define_of, command_of, commands_of};
 
-use crate::script::fields::{has_keys_within, hex_at, text_at, u32_at};
+use crate::script::fields::{has_keys_within, hex_at, mark_at, text_at, u32_at};
 use crate::script::form::FormError;
 use crate::script::signature::signature_at;
 use cranelift_module::{FuncId, Linkage};
@@ -56,6 +56,37 @@ fn anonymous_of(alloc: Global, convention: CallConv, value: &Value) -> Result<Co
     Ok(Command::DeclareAnonymousFunction { signature })
 }
 
+#[tactic(auto, unfolding(crate::specs::Script::declare_data_of))]
+fn declare_data_of(alloc: Global, value: &Value) -> Result<Command, FormError>
+    ensures { Gives command_view result (declare_data_of (view value.now)) }
+{
+    if !has_keys_within(value, &["op", "name", "linkage", "writable", "tls"]) {
+        return Err(FormError::NotForm);
+    }
+    let name = text_at(value, "name")?;
+    let linkage = linkage_of(text_at(value, "linkage")?)?;
+    let writable = mark_at(value, "writable")?;
+    let tls = mark_at(value, "tls")?;
+    Ok(Command::DeclareData {
+        name: String::from_str(alloc, name)?,
+        linkage,
+        writable,
+        tls,
+    })
+}
+
+#[tactic(auto, unfolding(crate::specs::Script::anonymous_data_of))]
+fn anonymous_data_of(value: &Value) -> Result<Command, FormError>
+    ensures { Gives command_view result (anonymous_data_of (view value.now)) }
+{
+    if !has_keys_within(value, &["op", "writable", "tls"]) {
+        return Err(FormError::NotForm);
+    }
+    let writable = mark_at(value, "writable")?;
+    let tls = mark_at(value, "tls")?;
+    Ok(Command::DeclareAnonymousData { writable, tls })
+}
+
 #[tactic(auto, unfolding(crate::specs::Script::define_of))]
 fn define_of(alloc: Global, value: &Value) -> Result<Command, FormError>
     ensures { Gives command_view result (define_of (view value.now)) }
@@ -80,6 +111,8 @@ fn command_of(alloc: Global, convention: CallConv, value: &Value) -> Result<Comm
     match text_at(value, "op")? {
         "declare_function" => declare_of(alloc, convention, value),
         "declare_anonymous_function" => anonymous_of(alloc, convention, value),
+        "declare_data" => declare_data_of(alloc, value),
+        "declare_anonymous_data" => anonymous_data_of(value),
         "define_function" => define_of(alloc, value),
         _ => Err(FormError::NotForm),
     }

@@ -6,7 +6,7 @@ ghost use Rattle.std.specs.List.{list_all, list_any};
 ghost use Rattle.std.specs.Str.{bytes_eq};
 ghost use Rattle.std.specs.BTreeMap.{keys as map_keys};
 ghost use Rattle.serde_json.specs.View.{view, items_view, members_view};
-ghost use Rattle.objtool_run.specs.Form.{Gives, has_keys_within, text_at, number_at, items_at, u32_at, hex_at};
+ghost use Rattle.objtool_run.specs.Form.{Gives, has_keys_within, text_at, number_at, items_at, u32_at, mark_at, hex_at};
 
 use crate::script::form::FormError;
 use hex::FromHexError;
@@ -49,6 +49,16 @@ pub fn u32_at(value: &Value, key: &str) -> Result<u32, FormError>
 {
     let n = number_at(value, key)?;
     u32::try_from(n).map_err(|_| FormError::NotForm)
+}
+
+/// The truth value under a key, or false where the object lacks the key.
+pub fn mark_at(value: &Value, key: &str) -> Result<bool, FormError>
+    ensures { Gives (λ b. b) result (mark_at key.now (view value.now)) }
+{
+    match value.get(key) {
+        Some(mark) => mark.as_bool().ok_or(FormError::NotForm),
+        None => Ok(false),
+    }
 }
 
 /// The bytes of the hexadecimal text under a key, in digits of either case.

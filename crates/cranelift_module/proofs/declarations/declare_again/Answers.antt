@@ -2,8 +2,9 @@ use Rattle.std.proofs.Common.{◌<◌, ◌∙◌, ap, sym, Some, option_map, len
 use Rattle.std.specs.List.{position_from}
 use Rattle.cranelift_module.specs.Rows.{FunctionRow}
 use Rattle.cranelift_module.specs.LinkState.{is_function_named, raised_function}
+use Rattle.cranelift_module.specs.Refusal.{changes_signature}
 use Rattle.cranelift_module.proofs.Places.{set-changed, slice_get-set, position-below, position-changed, with_first-at, any-at}
-use Rattle.cranelift_module.proofs.Names.{changes-at, changes-refused, changes-none}
+use Rattle.cranelift_module.proofs.Names.{find-row, changes-refused, changes-none}
 use Rattle.ir_core.specs.Signature.{SignatureData, is_same_signature}
 use Rattle.std.specs.String.{string_bytes}
 use Rattle.cranelift_module.proofs.declarations.declare_again.Goals as goal
@@ -13,7 +14,7 @@ index_mut-known-requires c = let h : c.args.id < length c.args.functions.now.ite
 
 pub returns-then-not-is_same-clause-refused : goal.returns-then-not-is_same-clause-refused
 returns-then-not-is_same-clause-refused c =
-    changes-at c.args.functions.now.items c.args.name.now c.args.id c.args.signature.now c.index_mut-known.result.now c.requires (rw (← c.as_u32.ensures) c.index_mut-known.ensures.value)
+    ap (changes_signature c.args.name.now c.args.signature.now) (find-row (is_function_named c.args.name.now) c.args.functions.now.items c.args.id c.index_mut-known.result.now c.requires (rw (← c.as_u32.ensures) c.index_mut-known.ensures.value))
     ∙ changes-refused c.args.name.now (string_bytes c.in_ok-name.name) c.args.signature.now c.in_ok-old.old c.in_ok-new.new c.index_mut-known.result.now
     (ap (λ (s : SignatureData). is_same_signature s c.args.signature.now) (sym c.signature.ensures) ∙ sym c.is_same.ensures.same ∙ c.if-not-is_same.true) c.in_ok-name.ensures.ok
     (c.in_ok-old.ensures ∙ c.signature-then-not-is_same.ensures)
@@ -21,7 +22,7 @@ returns-then-not-is_same-clause-refused c =
 
 pub returns-clause-accepted : goal.returns-clause-accepted
 returns-clause-accepted c =
-    changes-at c.args.functions.now.items c.args.name.now c.args.id c.args.signature.now c.index_mut-known.result.now c.requires (rw (← c.as_u32.ensures) c.index_mut-known.ensures.value)
+    ap (changes_signature c.args.name.now c.args.signature.now) (find-row (is_function_named c.args.name.now) c.args.functions.now.items c.args.id c.index_mut-known.result.now c.requires (rw (← c.as_u32.ensures) c.index_mut-known.ensures.value))
     ∙ changes-none c.args.name.now c.args.signature.now c.index_mut-known.result.now
     (ap (λ (s : SignatureData). is_same_signature s c.args.signature.now) (sym c.signature.ensures) ∙ sym c.is_same.ensures.same ∙ c.if-not-is_same.false)
 

@@ -17,7 +17,7 @@ returns-clause-id c =
     let row : FunctionRow = record { name = Some c.args.name.now; linkage = c.args.linkage; signature = c.args.signature.now } in
     let pushed : c.push.new.self.items ≡ c.args.functions.now.items ++ row ∷ [] = search rules in
     let e : c.from_u32-id.result ≡ length c.args.functions.now.items = search rules in
-    ap (position_from (is_function_named c.args.name.now) 0) pushed ∙ position-new c.args.functions.now.items c.args.name.now row c.requires.new refl ∙ ap Some (sym e)
+    ap (position_from (is_function_named c.args.name.now) 0) pushed ∙ position-new is_function_named c.args.functions.now.items c.args.name.now row c.requires.new refl ∙ ap Some (sym e)
 
 pub returns-clause-linkage : goal.returns-clause-linkage
 returns-clause-linkage c =

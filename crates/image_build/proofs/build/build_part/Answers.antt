@@ -1,6 +1,6 @@
-use Rattle.std.proofs.Common.{◌∙◌, ap}
+use Rattle.std.proofs.Common.{ap}
 use Rattle.cranelift_object.specs.Opened.{ProductData}
-use Rattle.image_build.proofs.PartCause.{tells_start, part_room, part_call, part_left, part_end, part_over, part_valid, part_built}
+use Rattle.image_build.proofs.PartCause.{tells_start, part_room, part_room_for_data, part_call, part_left, part_end, part_over, part_valid, part_built}
 use Rattle.image_build.proofs.build.build_part.Goals as goal
 
 pub returns-in-Err-clause-cause : goal.returns-in-Err-clause-cause
@@ -8,6 +8,9 @@ returns-in-Err-clause-cause c = rw c.at.ensures (tells_start c.args.part.now c.i
 
 pub apply-requires-clause-room : goal.apply-requires-clause-room
 apply-requires-clause-room c = part_room c.args.part.now c.in-Ok.module _ c.in-Ok.ensures.ok c.commands.ensures c.requires.few
+
+pub apply-requires-clause-room_for_data : goal.apply-requires-clause-room_for_data
+apply-requires-clause-room_for_data c = part_room_for_data c.args.part.now c.in-Ok.module _ c.in-Ok.ensures.ok c.commands.ensures c.requires.few
 
 pub returns-in-Err-apply-clause-cause : goal.returns-in-Err-apply-clause-cause
 returns-in-Err-apply-clause-cause c =

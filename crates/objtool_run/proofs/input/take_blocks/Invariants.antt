@@ -1,4 +1,4 @@
-use Rattle.std.proofs.Common.{ℕ, ◌-◌, ◌≤◌, length}
+use Rattle.std.proofs.Common.{◌-◌, ◌≤◌, length}
 use Rattle.byte_core.specs.Outside.{TakesInput, ChangesInput}
 use Rattle.objtool_run.proofs.input.take_blocks.Given as goal
 

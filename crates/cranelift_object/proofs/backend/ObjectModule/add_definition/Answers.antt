@@ -9,12 +9,12 @@ use Rattle.cranelift_object.proofs.backend.ObjectModule.add_definition.Goals as 
 
 pub section_of-requires : goal.section_of-requires
 section_of-requires c =
-    let h = subst (λ (o : OpenModule). IsModule o c.self.inside.defined.items) c.self.view_is c.self.invariant in
+    let h = subst (λ (o : OpenModule). IsModule o (record { functions = c.self.inside.defined.items; objects = c.self.inside.defined_objects.items })) c.self.view_is c.self.invariant in
     ap (λ (o : ObjectData). o.format) c.requires.before ∙ partial_format c.args.self.now.settings c.args.self.now.state _ ∙ h.begun.format
 
 pub bounds-functions-function : goal.bounds-functions-function
 bounds-functions-function c =
-    let h = subst (λ (o : OpenModule). IsModule o c.self.inside.defined.items) c.self.view_is c.self.invariant in
+    let h = subst (λ (o : OpenModule). IsModule o (record { functions = c.self.inside.defined.items; objects = c.self.inside.defined_objects.items })) c.self.view_is c.self.invariant in
     let there : c.index-definition.result.now ≡ get_or c.args.self.now.state.definitions c.args.number c.index-definition.result.now =
     c.index-definition.ensures ∙ ap (λ (o : OpenModule). get_or o.state.definitions c.args.number c.index-definition.result.now) c.self.view_is
     in
@@ -23,7 +23,7 @@ bounds-functions-function c =
 
 pub bounds-functions-function-in_ok-section : goal.bounds-functions-function-in_ok-section
 bounds-functions-function-in_ok-section c =
-    let h = subst (λ (o : OpenModule). IsModule o c.self.inside.defined.items) c.self.view_is c.self.invariant in
+    let h = subst (λ (o : OpenModule). IsModule o (record { functions = c.self.inside.defined.items; objects = c.self.inside.defined_objects.items })) c.self.view_is c.self.invariant in
     let there : c.index-definition.result.now ≡ get_or c.args.self.now.state.definitions c.args.number c.index-definition.result.now =
     c.index-definition.ensures ∙ ap (λ (o : OpenModule). get_or o.state.definitions c.args.number c.index-definition.result.now) c.self.view_is
     in
@@ -36,7 +36,7 @@ add_symbol_data-requires-clause-power c =
 
 pub add_symbol_data-requires-clause-symbol : goal.add_symbol_data-requires-clause-symbol
 add_symbol_data-requires-clause-symbol c =
-    let h = subst (λ (o : OpenModule). IsModule o c.self.inside.defined.items) c.self.view_is c.self.invariant in
+    let h = subst (λ (o : OpenModule). IsModule o (record { functions = c.self.inside.defined.items; objects = c.self.inside.defined_objects.items })) c.self.view_is c.self.invariant in
     let there : c.index-definition.result.now ≡ get_or c.args.self.now.state.definitions c.args.number c.index-definition.result.now =
     c.index-definition.ensures ∙ ap (λ (o : OpenModule). get_or o.state.definitions c.args.number c.index-definition.result.now) c.self.view_is
     in
@@ -47,7 +47,7 @@ add_symbol_data-requires-clause-symbol c =
 
 pub add_symbol_data-requires-clause-section : goal.add_symbol_data-requires-clause-section
 add_symbol_data-requires-clause-section c =
-    let h = subst (λ (o : OpenModule). IsModule o c.self.inside.defined.items) c.self.view_is c.self.invariant in
+    let h = subst (λ (o : OpenModule). IsModule o (record { functions = c.self.inside.defined.items; objects = c.self.inside.defined_objects.items })) c.self.view_is c.self.invariant in
     let there : c.index-definition.result.now ≡ get_or c.args.self.now.state.definitions c.args.number c.index-definition.result.now =
     c.index-definition.ensures ∙ ap (λ (o : OpenModule). get_or o.state.definitions c.args.number c.index-definition.result.now) c.self.view_is
     in
@@ -58,7 +58,7 @@ add_symbol_data-requires-clause-section c =
 
 pub add_symbol_data-requires-clause-format : goal.add_symbol_data-requires-clause-format
 add_symbol_data-requires-clause-format c =
-    let h = subst (λ (o : OpenModule). IsModule o c.self.inside.defined.items) c.self.view_is c.self.invariant in
+    let h = subst (λ (o : OpenModule). IsModule o (record { functions = c.self.inside.defined.items; objects = c.self.inside.defined_objects.items })) c.self.view_is c.self.invariant in
     let there : c.index-definition.result.now ≡ get_or c.args.self.now.state.definitions c.args.number c.index-definition.result.now =
     c.index-definition.ensures ∙ ap (λ (o : OpenModule). get_or o.state.definitions c.args.number c.index-definition.result.now) c.self.view_is
     in
@@ -68,7 +68,7 @@ add_symbol_data-requires-clause-format c =
 
 pub add_symbol_data-requires-clause-sum : goal.add_symbol_data-requires-clause-sum
 add_symbol_data-requires-clause-sum c =
-    let h = subst (λ (o : OpenModule). IsModule o c.self.inside.defined.items) c.self.view_is c.self.invariant in
+    let h = subst (λ (o : OpenModule). IsModule o (record { functions = c.self.inside.defined.items; objects = c.self.inside.defined_objects.items })) c.self.view_is c.self.invariant in
     let there : c.index-definition.result.now ≡ get_or c.args.self.now.state.definitions c.args.number c.index-definition.result.now =
     c.index-definition.ensures ∙ ap (λ (o : OpenModule). get_or o.state.definitions c.args.number c.index-definition.result.now) c.self.view_is
     in
@@ -79,7 +79,7 @@ add_symbol_data-requires-clause-sum c =
 
 pub returns : goal.returns
 returns c =
-    let h = subst (λ (o : OpenModule). IsModule o c.self.inside.defined.items) c.self.view_is c.self.invariant in
+    let h = subst (λ (o : OpenModule). IsModule o (record { functions = c.self.inside.defined.items; objects = c.self.inside.defined_objects.items })) c.self.view_is c.self.invariant in
     let there : c.index-definition.result.now ≡ get_or c.args.self.now.state.definitions c.args.number c.index-definition.result.now =
     c.index-definition.ensures ∙ ap (λ (o : OpenModule). get_or o.state.definitions c.args.number c.index-definition.result.now) c.self.view_is
     in

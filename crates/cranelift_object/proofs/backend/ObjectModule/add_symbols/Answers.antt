@@ -1,26 +1,25 @@
-use Rattle.std.proofs.Common.{◌≡◌, ◌<◌, ◌≤◌, length, ◌∙◌, subst, arith}
+use Rattle.std.proofs.Common.{◌≤◌, length, ap, ◌∙◌, subst, arith}
 use Rattle.cranelift_object.specs.Opened.{OpenModule}
 use Rattle.cranelift_object.specs.Kept.{IsModule}
-use Rattle.cranelift_object.proofs.DefineLaws.{with_symbols_more, with_symbols_all, mark_is, marks_more, marks_whole}
+use Rattle.cranelift_object.proofs.DefineLaws.{none_marked, with_symbols_all, functions_whole, objects_whole}
 use Rattle.cranelift_object.proofs.backend.ObjectModule.add_symbols.Goals as goal
 
-pub loop-number-preserved : goal.loop-number-preserved
-loop-number-preserved c =
-    let h = subst (λ (o : OpenModule). IsModule o c.self.inside.defined.items) c.self.view_is c.self.invariant in
-    let below : c.loop-number.number < length c.args.self.now.state.functions = omega (arith, c.loop-number-test.true, c.len-number-end.ensures, c.self.inside.defined.ok.0, h.marked) in
-    record {
-      symbols = with_symbols_more c.args.self.now _ c.loop-number.number _ _ h below c.loop-number.invariant.symbols (rw (← c.from_u32.ensures) c.in_ok-row.ensures.added);
-      rows = marks_more c.args.self.now.state c.loop-number.number _ _ _ c.loop-number.invariant.rows c.in_ok-push.ensures.items (mark_is c.args.self.now _ c.loop-number.number _ _ h below c.loop-number.invariant.symbols (rw (← c.from_u32.ensures) c.in_ok-row.ensures.row));
-    }
+pub loop-number-init : goal.loop-number-init
+loop-number-init c = let none = none_marked c.args.self.now.state in record { object = c.requires; functions = c.new.ensures.items ∙ none.0; objects = c.new-2.ensures.items ∙ none.1 }
 
 pub returns-clause-symbols : goal.returns-clause-symbols
 returns-clause-symbols c =
-    let h = subst (λ (o : OpenModule). IsModule o c.self.inside.defined.items) c.self.view_is c.self.invariant in
-    let past : length c.args.self.now.state.functions ≤ c.loop-number.number = omega (arith, c.loop-number-test.false, c.len-number-end.ensures, c.self.inside.defined.ok.0, h.marked) in
-    c.loop-number.invariant.symbols ∙ with_symbols_all c.args.self.now _ c.loop-number.number h past
+    let past : length c.args.self.now.state.created ≤ c.loop-number.number = omega (arith, c.loop-number-test.false, c.len-number-end.ensures, c.self.inside.created.ok.0, ap (λ (o : OpenModule). length o.state.created) c.self.view_is) in
+    c.loop-number.invariant.object ∙ with_symbols_all c.args.self.now c.loop-number.number past
 
 pub returns-clause-functions : goal.returns-clause-functions
 returns-clause-functions c =
-    let h = subst (λ (o : OpenModule). IsModule o c.self.inside.defined.items) c.self.view_is c.self.invariant in
-    let end : c.loop-number.number ≡ length c.args.self.now.state.functions = omega (arith, c.loop-number-test.false, c.loop-number.auto.number-end, c.len-number-end.ensures, c.self.inside.defined.ok.0, h.marked) in
-    c.loop-number.invariant.rows ∙ marks_whole c.args.self.now.state c.loop-number.number end
+    let h = subst (λ (o : OpenModule). IsModule o (record { functions = c.self.inside.defined.items; objects = c.self.inside.defined_objects.items })) c.self.view_is c.self.invariant in
+    let past : length c.args.self.now.state.created ≤ c.loop-number.number = omega (arith, c.loop-number-test.false, c.len-number-end.ensures, c.self.inside.created.ok.0, ap (λ (o : OpenModule). length o.state.created) c.self.view_is) in
+    c.loop-number.invariant.functions ∙ functions_whole c.args.self.now _ c.loop-number.number h past
+
+pub returns-clause-objects : goal.returns-clause-objects
+returns-clause-objects c =
+    let h = subst (λ (o : OpenModule). IsModule o (record { functions = c.self.inside.defined.items; objects = c.self.inside.defined_objects.items })) c.self.view_is c.self.invariant in
+    let past : length c.args.self.now.state.created ≤ c.loop-number.number = omega (arith, c.loop-number-test.false, c.len-number-end.ensures, c.self.inside.created.ok.0, ap (λ (o : OpenModule). length o.state.created) c.self.view_is) in
+    c.loop-number.invariant.objects ∙ objects_whole c.args.self.now _ c.loop-number.number h past

@@ -1,23 +1,12 @@
-use Rattle.std.proofs.Common.{◌≡◌, ◌<◌, map, length, ap, ◌∙◌, subst, arith}
-use Rattle.std.specs.List.{enumerate_from}
-use Rattle.cranelift_module.specs.Refusal.{first_cause}
-use Rattle.cranelift_object.specs.Opened.{OpenModule}
-use Rattle.cranelift_object.specs.EndCause.{end_cause, missing_function, function_missing}
+use Rattle.std.proofs.Common.{◌∙◌}
 use Rattle.cranelift_object.proofs.CallLaws.{tells_first, option_or_first}
-use Rattle.cranelift_object.proofs.FinishLaws.{end_plain, missing_step}
 use Rattle.cranelift_object.proofs.backend.ObjectModule.check_finished.Goals as goal
 
-pub loop-number-init : goal.loop-number-init
-loop-number-init c = subst (λ (o : OpenModule). end_cause o.state ≡ first_cause (map (missing_function o.state) (enumerate_from 0 o.state.functions))) c.self.view_is (end_plain _ _ c.self.invariant)
-
 pub returns-in-Err-clause-cause : goal.returns-in-Err-clause-cause
-returns-in-Err-clause-cause c =
-    let count = ap (λ (o : OpenModule). length o.state.functions) c.self.view_is in
-    let below : c.loop-number.number < length c.args.self.now.state.functions = omega (arith, c.loop-number-test.true, c.len-number-end.ensures, c.self.inside.defined.ok.0, c.self.invariant.marked, count) in
-    rw (c.loop-number.invariant ∙ missing_step c.args.self.now.state c.loop-number.number below) (tells_first c.in-Err.error (function_missing c.args.self.now.state c.loop-number.number) _ (rw (← c.from_u32.ensures) c.in-Err.ensures.cause))
+returns-in-Err-clause-cause c = rw c.check_functions.ensures.parts (tells_first c.in-Err.error _ _ c.in-Err.ensures.cause)
 
-pub loop-number-preserved : goal.loop-number-preserved
-loop-number-preserved c =
-    let count = ap (λ (o : OpenModule). length o.state.functions) c.self.view_is in
-    let below : c.loop-number.number < length c.args.self.now.state.functions = omega (arith, c.loop-number-test.true, c.len-number-end.ensures, c.self.inside.defined.ok.0, c.self.invariant.marked, count) in
-    c.loop-number.invariant ∙ missing_step c.args.self.now.state c.loop-number.number below ∙ option_or_first (function_missing c.args.self.now.state c.loop-number.number) _ (rw (← c.from_u32.ensures) c.in_default.ensures.none)
+pub returns-clause-none : goal.returns-clause-none
+returns-clause-none c = rw (c.check_functions.ensures.parts ∙ option_or_first _ _ c.in_default.ensures.none) c.check_objects.ensures.none
+
+pub returns-clause-cause : goal.returns-clause-cause
+returns-clause-cause c = rw (c.check_functions.ensures.parts ∙ option_or_first _ _ c.in_default.ensures.none) c.check_objects.ensures.cause

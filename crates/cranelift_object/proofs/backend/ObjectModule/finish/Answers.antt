@@ -7,10 +7,9 @@ use Rattle.cranelift_object.proofs.backend.ObjectModule.finish.Goals as goal
 
 pub returns-clause-ok : goal.returns-clause-ok
 returns-clause-ok c =
-    let h = subst (λ (o : OpenModule). IsModule o c.self.inside.defined.items) c.self.view_is c.self.invariant in
-    c.new.ensures ∙ product_is c.args.self _ _ _ h c.in_ok-add_definitions.ensures c.in_ok-functions.ensures.functions
+    c.new.ensures ∙ product_is c.args.self _ _ _ c.in_ok-add_definitions.ensures c.in_ok-symbols.ensures.functions c.in_ok-symbols.ensures.objects
 
 pub new-requires : goal.new-requires
 new-requires c =
-    let h = subst (λ (o : OpenModule). IsModule o c.self.inside.defined.items) c.self.view_is c.self.invariant in
+    let h = subst (λ (o : OpenModule). IsModule o (record { functions = c.self.inside.defined.items; objects = c.self.inside.defined_objects.items })) c.self.view_is c.self.invariant in
     writable c.args.self _ _ h c.in_ok-add_definitions.ensures

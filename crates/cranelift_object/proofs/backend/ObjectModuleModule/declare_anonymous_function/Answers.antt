@@ -7,4 +7,4 @@ use Rattle.cranelift_object.proofs.backend.ObjectModuleModule.declare_anonymous_
 pub invariant_of-self-2 : goal.invariant_of-self-2
 invariant_of-self-2 c =
     let few = subst (λ (o : OpenModule). length o.state.functions < 4294967295) (sym c.self.view_is) c.requires in
-    kept_more _ _ _ (record { name = None; linkage = Local; signature = c.args.signature.now }) _ _ _ c.self.invariant tt few c.in_ok-id.ensures.declared c.in_ok-id.ensures.id (rw (← c.reserve.ensures.items) c.note_function.ensures.created) (rw (← c.reserve-2.ensures.items) c.note_function.ensures.defined)
+    kept_more _ _ _ (record { name = None; linkage = Local; signature = c.args.signature.now }) _ _ _ c.self.invariant tt few c.in_ok-id.ensures.declared c.in_ok-id.ensures.id (rw (← c.reserve.ensures.items) c.note.ensures.created) (rw (← c.reserve-2.ensures.items) c.note.ensures.defined)

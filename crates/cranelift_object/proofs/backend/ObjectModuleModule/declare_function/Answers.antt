@@ -14,8 +14,8 @@ pub invariant_of-self-2 : goal.invariant_of-self-2
 invariant_of-self-2 c =
     let few = subst (λ (o : OpenModule). length o.state.functions < 4294967295) (sym c.self.view_is) c.requires in
     let free : zero_byte c.args.name.now ≡ None = rw (← c.as_bytes.ensures.value) c.in_default.ensures.accepted in
-    declare_noted _ _ _ _ _ c.args.name.now c.args.linkage c.args.signature.now c.in-Ok.declared.0 c.self.invariant free few c.in-Ok.ensures.declared c.in-Ok.ensures.id (rw (← c.reserve.ensures.items, ← c.reserve-2.ensures.items) c.note_new.ensures.new)
-    (rw (← c.reserve.ensures.items, ← c.reserve-2.ensures.items) c.note_new.ensures.known)
+    declare_noted _ _ _ _ _ c.args.name.now c.args.linkage c.args.signature.now c.in-Ok.declared.0 c.self.invariant free few c.in-Ok.ensures.declared c.in-Ok.ensures.id (rw (← c.reserve.ensures.items, ← c.reserve-2.ensures.items) (λ e. c.note_new.ensures.new (c.as_u32.ensures ∙ e)))
+    (rw (← c.reserve.ensures.items, ← c.reserve-2.ensures.items) (λ n. c.note_new.ensures.known (λ e. n (sym c.as_u32.ensures ∙ e))))
 
 pub returns-clause-call : goal.returns-clause-call
 returns-clause-call c =
@@ -24,4 +24,4 @@ returns-clause-call c =
     accepted_call c.in-Ok.declared.0 _ _ _
     (refusal_declared c.args.self.now.state c.args.name.now c.args.linkage c.args.signature.now c.self.inside.declarations.functions c.self.inside.declarations.objects free (ap (λ (o : OpenModule). o.state.functions) c.self.view_is) (ap (λ (o : OpenModule). o.state.objects) c.self.view_is) ∙ c.in-Ok.ensures.accepted)
     (step_noted (the_view c.self.inside) c.self.inside.defined.items c.note_new.new.defined.items c.args.self.now.state c.declare_function.new.self c.note_new.new.created.items c.args.name.now c.args.linkage c.args.signature.now c.in-Ok.declared.0 same c.self.invariant.marked c.in-Ok.ensures.declared c.in-Ok.ensures.id
-    (rw (← c.reserve.ensures.items, ← c.reserve-2.ensures.items) c.note_new.ensures.new) (rw (← c.reserve.ensures.items, ← c.reserve-2.ensures.items) c.note_new.ensures.known))
+    (rw (← c.reserve.ensures.items, ← c.reserve-2.ensures.items) (λ e. c.note_new.ensures.new (c.as_u32.ensures ∙ e))) (rw (← c.reserve.ensures.items, ← c.reserve-2.ensures.items) (λ n. c.note_new.ensures.known (λ e. n (sym c.as_u32.ensures ∙ e)))))

@@ -1,0 +1,44 @@
+use Rattle.std.proofs.Common.{◌<◌, ◌∙◌, ap, sym, Some, option_map, length, refl, rules}
+use Rattle.std.specs.List.{position_from}
+use Rattle.cranelift_module.specs.Rows.{DataRow}
+use Rattle.cranelift_module.specs.LinkState.{is_data_named, raised_data}
+use Rattle.cranelift_module.specs.Refusal.{changes_tls}
+use Rattle.cranelift_module.proofs.Places.{set-changed, slice_get-set, position-below, position-changed, with_first-at, any-at}
+use Rattle.cranelift_module.proofs.Names.{find-row, tls-refused, tls-none}
+use Rattle.std.specs.String.{string_bytes}
+use Rattle.cranelift_module.proofs.declarations.declare_data_again.Goals as goal
+
+pub index_mut-known-requires : goal.index_mut-known-requires
+index_mut-known-requires c = let h : c.args.id < length c.args.objects.now.items = position-below (is_data_named c.args.name.now) c.args.objects.now.items c.args.id c.requires in search rules
+
+pub returns-clause-found : goal.returns-clause-found
+returns-clause-found c = set-changed (raised_data c.args.linkage c.args.writable) c.args.objects.now.items c.args.id c.as_u32.result c.index_mut-known.result.now c.raise.new.self c.as_u32.ensures c.raise.ensures c.index_mut-known.ensures.value
+
+pub returns-clause-declared : goal.returns-clause-declared
+returns-clause-declared c =
+    set-changed (raised_data c.args.linkage c.args.writable) c.args.objects.now.items c.args.id c.as_u32.result c.index_mut-known.result.now c.raise.new.self c.as_u32.ensures c.raise.ensures c.index_mut-known.ensures.value
+    ∙ sym (with_first-at (is_data_named c.args.name.now) (raised_data c.args.linkage c.args.writable) (record { name = Some c.args.name.now; linkage = c.args.linkage; writable = c.args.writable; tls = c.args.tls }) c.args.objects.now.items c.args.id c.requires)
+
+pub returns-clause-id : goal.returns-clause-id
+returns-clause-id c =
+    ap (position_from (is_data_named c.args.name.now) 0) (set-changed (raised_data c.args.linkage c.args.writable) c.args.objects.now.items c.args.id c.as_u32.result c.index_mut-known.result.now c.raise.new.self c.as_u32.ensures c.raise.ensures c.index_mut-known.ensures.value)
+    ∙ position-changed (is_data_named c.args.name.now) (raised_data c.args.linkage c.args.writable) (λ x. refl) c.args.objects.now.items c.args.id
+    ∙ c.requires
+
+pub returns-clause-linkage : goal.returns-clause-linkage
+returns-clause-linkage c =
+    ap (option_map (λ (row : DataRow). row.linkage)) (slice_get-set c.args.objects.now.items c.args.id c.as_u32.result c.raise.new.self c.as_u32.ensures (position-below (is_data_named c.args.name.now) c.args.objects.now.items c.args.id c.requires))
+    ∙ ap Some (sym c.linkage.ensures)
+
+pub returns-clause-known : goal.returns-clause-known
+returns-clause-known c = any-at (is_data_named c.args.name.now) c.args.objects.now.items c.args.id c.requires
+
+pub returns-then-tls-clause-refused : goal.returns-then-tls-clause-refused
+returns-then-tls-clause-refused c =
+    ap (changes_tls c.args.name.now c.args.tls) (find-row (is_data_named c.args.name.now) c.args.objects.now.items c.args.id c.index_mut-known.result.now c.requires (rw (← c.as_u32.ensures) c.index_mut-known.ensures.value))
+    ∙ tls-refused c.args.name.now (string_bytes c.in_ok-name.name) c.args.tls c.tls-then-tls.result c.tls.result c.index_mut-known.result.now c.tls.ensures c.tls-then-tls.ensures c.if-tls.true c.in_ok-name.ensures.ok
+
+pub returns-clause-accepted : goal.returns-clause-accepted
+returns-clause-accepted c =
+    ap (changes_tls c.args.name.now c.args.tls) (find-row (is_data_named c.args.name.now) c.args.objects.now.items c.args.id c.index_mut-known.result.now c.requires (rw (← c.as_u32.ensures) c.index_mut-known.ensures.value))
+    ∙ tls-none c.args.name.now c.args.tls c.tls.result c.index_mut-known.result.now c.tls.ensures c.if-tls.false

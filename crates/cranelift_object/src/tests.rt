@@ -1,0 +1,337 @@
+ghost use Rattle.std.specs.Prelude.{◌≡◌, ◌≢◌, ◌≤◌, ◌<◌, ◌+◌, [], length, IfOk};
+ghost use Rattle.cranelift_object.specs.Commands.{command_view, IsPlainCall};
+ghost use Rattle.ir_core.specs.declared.target.BinaryFormat.TheVariants.{Macho};
+
+use crate::{Command, CommandPart, ObjectBuilder, ObjectModule, apply};
+use cranelift_module::{
+    DataId, FuncId, FuncOrDataId, Linkage, Module, ModuleError, ModuleResult, default_libcall_names,
+};
+use ir_core::{
+    Architecture, BinaryFormat, CallConv, Environment, FuncRef, Function, Signature, System,
+    TargetIsa, Triple,
+};
+use object_core::{SymbolKind, SymbolSection};
+use std::alloc::{AllocError, Global};
+use std::process::Abort;
+use std::test::Fail;
+
+fn target(alloc: Global, architecture: Architecture) -> TargetIsa
+    ensures { result.triple.binary_format ≢ Macho }
+{
+    let triple = Triple {
+        architecture,
+        binary_format: BinaryFormat::Elf,
+        system: System::Linux,
+        version: None,
+        environment: Environment::Unknown,
+    };
+    TargetIsa::new(alloc, triple)
+}
+
+fn begun(
+    alloc: Global,
+    name: &[u8],
+    architecture: Architecture,
+) -> Result<ObjectBuilder, ModuleError> {
+    let names = default_libcall_names(alloc)?;
+    ObjectBuilder::new(alloc, target(alloc, architecture), name, names)
+}
+
+#[tactic(auto, unfolding(cranelift_module::specs::LinkState::state_of, cranelift_module::specs::Rows::functions_of, cranelift_module::specs::Rows::objects_of, ir_core::specs::Moments::moments))]
+fn opened(alloc: Global) -> Result<ObjectModule, ModuleError>
+    ensures functions { IfOk result (λ m. m.state.functions ≡ []) }
+    ensures objects { IfOk result (λ m. m.state.objects ≡ []) }
+{
+    let builder = begun(alloc, b"a.o", Architecture::X86_64)?;
+    ObjectModule::new(builder)
+}
+
+#[tactic(auto, using(crate::proofs::ApplyLaws::call_functions, crate::proofs::ApplyLaws::call_objects, crate::proofs::ApplyLaws::place_below))]
+fn declare(
+    module: &mut ObjectModule,
+    alloc: Global,
+    name: &str,
+    linkage: Linkage,
+) -> ModuleResult<FuncId>
+    requires { length (module.old).state.functions < 100 }
+    ensures functions { length (module.new).state.functions ≤ length (module.old).state.functions + 1 }
+    ensures objects { length (module.new).state.objects ≤ length (module.old).state.objects + 1 }
+    ensures declared { IfOk result (λ id. id < length (module.new).state.functions) }
+{
+    let signature = module.make_signature(alloc);
+    module.declare_function(name, linkage, &signature)
+}
+
+#[tactic(auto, using(crate::proofs::ApplyLaws::call_functions, crate::proofs::ApplyLaws::call_objects, crate::proofs::ApplyLaws::place_below))]
+fn declare_data(module: &mut ObjectModule, name: &str, tls: bool) -> ModuleResult<DataId>
+    requires { length (module.old).state.objects < 100 }
+    ensures functions { length (module.new).state.functions ≤ length (module.old).state.functions + 1 }
+    ensures objects { length (module.new).state.objects ≤ length (module.old).state.objects + 1 }
+    ensures declared { IfOk result (λ id. id < length (module.new).state.objects) }
+{
+    module.declare_data(name, Linkage::Import, true, tls)
+}
+
+#[tactic(auto, using(crate::proofs::ApplyLaws::call_functions, crate::proofs::ApplyLaws::call_objects))]
+fn declare_unnamed_data(module: &mut ObjectModule) -> ModuleResult<DataId>
+    requires { length (module.old).state.objects < 100 }
+    ensures functions { length (module.new).state.functions ≤ length (module.old).state.functions + 1 }
+    ensures objects { length (module.new).state.objects ≤ length (module.old).state.objects + 1 }
+{
+    module.declare_anonymous_data(false, false)
+}
+
+#[tactic(auto, using(crate::proofs::ApplyLaws::call_functions, crate::proofs::ApplyLaws::call_objects))]
+fn define(module: &mut ObjectModule, id: FuncId, bytes: &[u8]) -> ModuleResult<()>
+    ensures functions { length (module.new).state.functions ≤ length (module.old).state.functions + 1 }
+    ensures objects { length (module.new).state.objects ≤ length (module.old).state.objects + 1 }
+{
+    module.define_function_bytes(id, 1, bytes, &[])
+}
+
+fn prints(rt: &impl Abort, alloc: Global, error: &ModuleError, expected: &str) -> Result<(), Fail> {
+    assert_eq!(rt; error.to_string(alloc)?.as_str(), expected);
+    Ok(())
+}
+
+#[test]
+fn an_exported_function_has_a_file_of_592_bytes(rt: HostRuntime) -> Result<(), Fail> {
+    let alloc = rt.alloc();
+    let mut module = opened(alloc)?;
+    let main = declare(&mut module, alloc, "main", Linkage::Export)?;
+    define(&mut module, main, b"\xc3")?;
+    let product = module.finish()?;
+    assert_eq!(rt; product.functions().len(), 1);
+    assert_eq!(rt; product.emit(alloc)?.len(), 592);
+    Ok(())
+}
+
+#[test]
+fn a_second_definition_is_refused_and_the_first_stays(rt: HostRuntime) -> Result<(), Fail> {
+    let alloc = rt.alloc();
+    let mut module = opened(alloc)?;
+    let main = declare(&mut module, alloc, "main", Linkage::Export)?;
+    define(&mut module, main, b"\xc3")?;
+    match define(&mut module, main, b"\x90") {
+        Ok(()) => return Err(Fail::from("a second definition was taken")),
+        Err(error) => prints(
+            &rt,
+            alloc,
+            &error,
+            "Duplicate definition of identifier: main",
+        )?,
+    }
+    let product = module.finish()?;
+    match product.object().sections().first() {
+        Some(section) => assert!(rt; section.contents() == b"\xc3".as_slice()),
+        None => return Err(Fail::from("no section")),
+    }
+    Ok(())
+}
+
+#[test]
+fn an_import_can_not_be_defined(rt: HostRuntime) -> Result<(), Fail> {
+    let alloc = rt.alloc();
+    let mut module = opened(alloc)?;
+    let printf = declare(&mut module, alloc, "printf", Linkage::Import)?;
+    match define(&mut module, printf, b"\xc3") {
+        Ok(()) => Err(Fail::from("an import was defined")),
+        Err(error) => prints(
+            &rt,
+            alloc,
+            &error,
+            "Invalid to define identifier declared as an import: printf",
+        ),
+    }
+}
+
+#[test]
+fn imports_that_nothing_uses_have_undefined_symbols(rt: HostRuntime) -> Result<(), Fail> {
+    let alloc = rt.alloc();
+    let mut module = opened(alloc)?;
+    declare(&mut module, alloc, "printf", Linkage::Import)?;
+    let environ = declare_data(&mut module, "environ", false)?;
+    let errno = declare_data(&mut module, "errno", true)?;
+    assert_eq!(rt; environ.as_u32(), 0);
+    assert_eq!(rt; errno.as_u32(), 1);
+    let product = module.finish()?;
+    assert_eq!(rt; product.data_objects().len(), 2);
+    let symbols = product.object().symbols();
+    let cases = [
+        (b"printf".as_slice(), SymbolKind::Text),
+        (b"environ".as_slice(), SymbolKind::Data),
+        (b"errno".as_slice(), SymbolKind::Tls),
+    ];
+    for (symbol, (name, kind)) in symbols.iter().skip(1).zip(&cases) {
+        assert!(rt; symbol.name.as_slice() == *name);
+        assert!(rt; symbol.kind == *kind);
+        assert!(rt; matches!(symbol.section, SymbolSection::Undefined));
+    }
+    Ok(())
+}
+
+#[test]
+fn what_lacks_its_definition_is_named_functions_first(rt: HostRuntime) -> Result<(), Fail> {
+    let alloc = rt.alloc();
+    let mut module = opened(alloc)?;
+    let data = declare_unnamed_data(&mut module)?;
+    assert_eq!(rt; data, DataId::from_u32(0));
+    let signature = module.make_signature(alloc);
+    let function = module.declare_anonymous_function(&signature)?;
+    define(&mut module, function, b"\xc3")?;
+    match module.finish() {
+        Ok(_) => Err(Fail::from("a missing definition was taken")),
+        Err(error) => prints(
+            &rt,
+            alloc,
+            &error,
+            "Missing definition of identifier: .Ldata0",
+        ),
+    }
+}
+
+#[test]
+fn a_zero_byte_of_the_files_name_has_its_place(rt: HostRuntime) -> Result<(), Fail> {
+    let alloc = rt.alloc();
+    match begun(alloc, b"a.\0o", Architecture::X86_64) {
+        Ok(_) => Err(Fail::from("a zero byte was taken")),
+        Err(error) => prints(&rt, alloc, &error, "Backend error: zero byte at 2"),
+    }
+}
+
+#[test]
+fn a_processor_that_is_not_built_is_unsupported(rt: HostRuntime) -> Result<(), Fail> {
+    let alloc = rt.alloc();
+    match begun(alloc, b"a.o", Architecture::S390x) {
+        Ok(_) => Err(Fail::from("a processor was taken")),
+        Err(error) => prints(&rt, alloc, &error, "Backend error: unsupported target"),
+    }
+}
+
+fn declaration(alloc: Global, name: &str) -> Result<Command, AllocError>
+    ensures { IfOk result (λ c. IsPlainCall (command_view c)) }
+{
+    Ok(Command::DeclareFunction {
+        name: String::from_str(alloc, name)?,
+        linkage: Linkage::Import,
+        signature: Signature::new(alloc, CallConv::SystemV),
+    })
+}
+
+fn apply_two(
+    module: &mut ObjectModule,
+    first: Command,
+    second: Command,
+) -> Result<(), (usize, ModuleError)>
+    requires first { IsPlainCall (command_view first) }
+    requires second { IsPlainCall (command_view second) }
+    requires functions { length (module.old).state.functions < 100 }
+    requires objects { length (module.old).state.objects < 100 }
+{
+    apply(module, &[first, second])
+}
+
+#[test]
+fn apply_names_the_first_refused_command(rt: HostRuntime) -> Result<(), Fail> {
+    let alloc = rt.alloc();
+    let mut module = opened(alloc)?;
+    let taken = declaration(alloc, "f")?;
+    let refused = declaration(alloc, "a\0b")?;
+    match apply_two(&mut module, taken, refused) {
+        Ok(()) => return Err(Fail::from("a command was taken")),
+        Err((number, error)) => {
+            assert_eq!(rt; number, 1);
+            prints(&rt, alloc, &error, "Backend error: zero byte at 1")?;
+        }
+    }
+    let f = FuncOrDataId::Func(FuncId::from_u32(0));
+    assert_eq!(rt; module.get_name("f"), Some(f));
+    Ok(())
+}
+
+// Imports a declared function into another one.
+fn import(module: &mut ObjectModule, id: FuncId, function: &mut Function) -> ModuleResult<FuncRef>
+    requires declared { id < length (module.old).state.functions }
+    requires names { length (function.old).lists.user_named_funcs < 100 }
+    requires signatures { length (function.old).lists.signatures < 100 }
+    requires functions { length (function.old).lists.ext_funcs < 100 }
+    ensures state { (module.new).state ≡ (module.old).state }
+    ensures names { length (function.new).lists.user_named_funcs ≤ length (function.old).lists.user_named_funcs + 1 }
+    ensures signatures { length (function.new).lists.signatures ≤ length (function.old).lists.signatures + 1 }
+    ensures functions { length (function.new).lists.ext_funcs ≤ length (function.old).lists.ext_funcs + 1 }
+{
+    module.declare_func_in_func(id, function)
+}
+
+#[test]
+fn two_imports_of_a_function_have_one_user_name(rt: HostRuntime) -> Result<(), Fail> {
+    let alloc = rt.alloc();
+    let mut module = opened(alloc)?;
+    let f = declare(&mut module, alloc, "f", Linkage::Export)?;
+    let mut function = Function::new(alloc);
+    let first = import(&mut module, f, &mut function)?;
+    let second = import(&mut module, f, &mut function)?;
+    assert_eq!(rt; first.to_string(alloc)?.as_str(), "fn0");
+    assert_eq!(rt; second.to_string(alloc)?.as_str(), "fn1");
+    assert_eq!(rt; function.user_named_funcs().len(), 1);
+    assert_eq!(rt; function.signatures().len(), 2);
+    for callee in function.ext_funcs() {
+        assert!(rt; callee.colocated && !callee.patchable);
+    }
+    Ok(())
+}
+
+#[test]
+fn an_import_of_data_has_the_marks_of_its_declaration(rt: HostRuntime) -> Result<(), Fail> {
+    let alloc = rt.alloc();
+    let mut module = opened(alloc)?;
+    let errno = declare_data(&mut module, "errno", true)?;
+    let mut function = Function::new(alloc);
+    let value = module.declare_data_in_func(errno, &mut function)?;
+    assert_eq!(rt; value.to_string(alloc)?.as_str(), "gv0");
+    for value in function.global_values() {
+        assert!(rt; !value.colocated && value.tls && value.offset == 0);
+    }
+    for name in function.user_named_funcs() {
+        assert_eq!(rt; name.namespace, 1);
+    }
+    Ok(())
+}
+
+// Declares the function `g` through any module.
+fn number_of_g<M: Module>(module: &mut M, alloc: Global) -> ModuleResult<u32>
+    requires { length (M.state module.old).functions < 100 }
+{
+    let signature = module.make_signature(alloc);
+    let id = module.declare_function("g", Linkage::Import, &signature)?;
+    Ok(id.as_u32())
+}
+
+#[test]
+fn a_borrowed_and_a_boxed_module_have_the_same_functions(rt: HostRuntime) -> Result<(), Fail> {
+    let alloc = rt.alloc();
+    let mut module = opened(alloc)?;
+    declare(&mut module, alloc, "f", Linkage::Import)?;
+    let mut borrowed = &mut module;
+    assert_eq!(rt; number_of_g(&mut borrowed, alloc)?, 1);
+    let mut boxed = Box::new(alloc, opened(alloc)?)?;
+    assert_eq!(rt; number_of_g(&mut boxed, alloc)?, 0);
+    Ok(())
+}
+
+#[test]
+fn a_part_keeps_what_was_set(rt: HostRuntime) -> Result<(), Fail> {
+    let alloc = rt.alloc();
+    let isa = target(alloc, Architecture::X86_64);
+    let mut part = CommandPart::new(alloc, b"a.o", isa, default_libcall_names(alloc)?)?;
+    assert!(rt; !part.function_sections() && !part.data_sections());
+    part.set_name(b"b.o")?;
+    part.set_function_sections(true);
+    part.set_data_sections(true);
+    part.set_isa(target(alloc, Architecture::Aarch64));
+    assert!(rt; part.name() == b"b.o".as_slice());
+    assert!(rt; part.function_sections() && part.data_sections());
+    assert_eq!(rt; part.isa().triple().architecture, Architecture::Aarch64);
+    assert_eq!(rt; part.commands().len(), 0);
+    Ok(())
+}
