@@ -1,6 +1,6 @@
 #!/bin/sh
 # Has other programs read and link a file that the program built: readelf has to show its sections and
-# symbols, and ld -r to link it. It runs after the gate, and is skipped where the program isn't built or a
+# symbols, and ld -r to link it. Run by hand; it is skipped where the program isn't built or a
 # tool is missing.
 set -eu
 top=$(cd "$(dirname "$0")/.." && pwd)
