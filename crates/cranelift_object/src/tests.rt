@@ -4,7 +4,8 @@ ghost use Rattle.ir_core.specs.declared.target.BinaryFormat.TheVariants.{Macho};
 
 use crate::{Command, CommandPart, ObjectBuilder, ObjectModule, apply};
 use cranelift_module::{
-    DataId, FuncId, FuncOrDataId, Linkage, Module, ModuleError, ModuleResult, default_libcall_names,
+    DataDescription, DataId, FuncId, FuncOrDataId, Linkage, Module, ModuleError, ModuleRelocTarget,
+    ModuleResult, default_libcall_names,
 };
 use ir_core::{
     Architecture, BinaryFormat, CallConv, Environment, FuncRef, Function, Signature, System,
@@ -295,6 +296,35 @@ fn an_import_of_data_has_the_marks_of_its_declaration(rt: HostRuntime) -> Result
     for name in function.user_named_funcs() {
         assert_eq!(rt; name.namespace, 1);
     }
+    Ok(())
+}
+
+#[test]
+fn imports_into_data_have_the_targets_of_their_identifiers(rt: HostRuntime) -> Result<(), Fail> {
+    let alloc = rt.alloc();
+    let mut module = opened(alloc)?;
+    let f = declare(&mut module, alloc, "f", Linkage::Export)?;
+    let mut description = DataDescription::new(alloc);
+    let reference = module.declare_func_in_data(f, &mut description)?;
+    assert_eq!(rt; reference.as_u32(), 0);
+    assert!(rt; description.function_decls() == [ModuleRelocTarget::user(0, 0)].as_slice());
+    let mut module = opened(alloc)?;
+    let d = declare_data(&mut module, "d", false)?;
+    let reference = module.declare_data_in_data(d, &mut description)?;
+    assert_eq!(rt; reference.as_u32(), 0);
+    assert!(rt; description.data_decls() == [ModuleRelocTarget::user(1, 0)].as_slice());
+    Ok(())
+}
+
+#[test]
+fn apply_makes_all_calls(rt: HostRuntime) -> Result<(), Fail> {
+    let alloc = rt.alloc();
+    let mut module = opened(alloc)?;
+    let first = declaration(alloc, "f")?;
+    let second = declaration(alloc, "g")?;
+    assert!(rt; apply_two(&mut module, first, second).is_ok());
+    let g = FuncOrDataId::Func(FuncId::from_u32(1));
+    assert_eq!(rt; module.get_name("g"), Some(g));
     Ok(())
 }
 
