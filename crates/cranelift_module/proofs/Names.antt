@@ -232,42 +232,6 @@ find-row {A} test rows k row h e = find-at test rows k h ∙ got rows k row (pos
   got (y ∷ ys) zero x h e = ap Some (sym e)
   got (y ∷ ys) (suc k) x h e = got ys k x (omega arith) e
 
--- another signature is refused with both
-pub changes-refused : (name text : List ℕ) (signature old new : SignatureData) (row : FunctionRow) → is_same_signature row.signature signature ≡ false → text ≡ name → old ≡ row.signature → new ≡ signature
-    → changes_signature name signature (Some row) ≡ Some (incompatible_signature text old new)
-changes-refused name text signature old new row e t o n = rw (e, t, o, n) refl
-
-pub changes-none : (name : List ℕ) (signature : SignatureData) (row : FunctionRow) → is_same_signature row.signature signature ≡ true → changes_signature name signature (Some row) ≡ None
-changes-none name signature row e = rw e refl
-
--- why data with one thread-local mark can't be declared with another
-abbrev mark_clash : List ℕ → Bool → Bool → Option Refusal
-mark_clash name true old = refuse_if (not old) (incompatible_tls name old true)
-mark_clash name false old = refuse_if old (incompatible_tls name old false)
-
-changes_mark : (name : List ℕ) (tls : Bool) (row : DataRow) → changes_tls name tls (Some row) ≡ mark_clash name tls row.tls
-changes_mark name true row = refl
-changes_mark name false row = refl
-
-another_mark : (name : List ℕ) (tls old : Bool) → not (beq old tls) ≡ true → mark_clash name tls old ≡ Some (incompatible_tls name old tls)
-another_mark name true true n = absurd (cc)
-another_mark name true false n = refl
-another_mark name false true n = refl
-another_mark name false false n = absurd (cc)
-
-same_mark : (name : List ℕ) (tls old : Bool) → not (beq old tls) ≡ false → mark_clash name tls old ≡ None
-same_mark name true true n = refl
-same_mark name true false n = absurd (cc)
-same_mark name false true n = absurd (cc)
-same_mark name false false n = refl
-
--- another thread-local mark is refused with both
-pub tls-refused : (name text : List ℕ) (tls told known : Bool) (row : DataRow) → known ≡ row.tls → told ≡ row.tls → not (beq known tls) ≡ true → text ≡ name → changes_tls name tls (Some row) ≡ Some (incompatible_tls text told tls)
-tls-refused name text tls told known row k e n t = rw (e, t) (changes_mark name tls row ∙ another_mark name tls row.tls (rw (← k) n))
-
-pub tls-none : (name : List ℕ) (tls known : Bool) (row : DataRow) → known ≡ row.tls → not (beq known tls) ≡ false → changes_tls name tls (Some row) ≡ None
-tls-none name tls known row k n = changes_mark name tls row ∙ same_mark name tls row.tls (rw (← k) n)
-
 pub on_ok : {A E : Type 0} (result : Result A E) (P : Type 0) → P → OnOk result P
 on_ok (Ok a) P p = p
 on_ok (Err e) P p = tt

@@ -1,13 +1,17 @@
 -- The laws of link states and linkages.
-use Rattle.std.specs.Prelude.{◌≡◌, ℕ, filter_map, List, [], ◌∷◌, ◌++◌, Some, None}
+use Rattle.std.specs.Prelude.{◌≡◌, ℕ, List, [], ◌∷◌, ◌++◌, Some, None, take, slice_get, option_map, is_some}
 use Rattle.ir_core.specs.Target.{Target}
 use Rattle.cranelift_module.specs.declared.linkage.Linkage.{Linkage}
-use Rattle.std.specs.List.{list_any}
+use Rattle.std.specs.List.{find}
 use Rattle.std.specs.List.Sorted.{IsPermutation}
-use Rattle.cranelift_module.specs.Linkage.{merge, greatest}
-use Rattle.cranelift_module.specs.Call.{Call, function_linkage, data_linkage, marks_writable}
-use Rattle.cranelift_module.specs.LinkState.{state_of, step, steps}
-use Rattle.cranelift_module.specs.Refusal.{refusal}
+use Rattle.cranelift_module.specs.Linkage.{merge}
+use Rattle.cranelift_module.specs.Call.{Call}
+use Rattle.cranelift_module.specs.Rows.{FunctionRow}
+use Rattle.cranelift_module.specs.Definitions.{is_writable}
+use Rattle.cranelift_module.specs.Marks.{linkage_held, name_held, linkage_at, linkage_of, writable_at, name_of, signature_of, definition_of}
+use Rattle.cranelift_module.specs.LinkState.{state_of, step, steps, is_function_named, is_data_named}
+use Rattle.cranelift_module.specs.Refusal.{refusal, is_defined}
+use Rattle.cranelift_module.specs.declared.identifiers.FuncOrDataId.{FuncOrDataId}
 use Rattle.cranelift_module.specs.declared.identifiers.FuncOrDataId.TheVariants.{Func, Data}
 use Rattle.cranelift_module.specs.Texts.{user_target, function_of, data_of}
 
@@ -23,11 +27,31 @@ IsAccepted target calls = (before : List Call) (call : Call) (after : List Call)
 abbrev pub AllCalls : Type 0
 AllCalls = (target : Target) (calls : List Call) → IsAccepted target calls → state_of target calls ≡ steps (state_of target []) calls
 
--- declarations in another order leave each name the same marks: a function's linkage, a data object's linkage and writable mark
-abbrev pub AnyOrder : Type 0
-AnyOrder =
-    (name : List ℕ) (calls others : List Call)
-    → IsPermutation calls others → (greatest (filter_map (function_linkage name) calls) ≡ greatest (filter_map (function_linkage name) others)) × (greatest (filter_map (data_linkage name) calls) ≡ greatest (filter_map (data_linkage name) others)) × (list_any (marks_writable name) calls ≡ list_any (marks_writable name) others)
+-- accepted calls in another order leave each name the same function, with its linkage and its signature
+abbrev pub FunctionsInAnyOrder : Type 0
+FunctionsInAnyOrder =
+    (target : Target) (name : List ℕ) (calls others : List Call) → IsPermutation calls others → IsAccepted target calls → IsAccepted target others
+    → find (is_function_named name) (state_of target calls).functions ≡ find (is_function_named name) (state_of target others).functions
+
+-- and the same data object, with its linkage and both its marks
+abbrev pub DataInAnyOrder : Type 0
+DataInAnyOrder =
+    (target : Target) (name : List ℕ) (calls others : List Call) → IsPermutation calls others → IsAccepted target calls → IsAccepted target others
+    → find (is_data_named name) (state_of target calls).objects ≡ find (is_data_named name) (state_of target others).objects
+
+-- what is picked out of a list of calls for an identifier is what the state that they leave has for it
+abbrev pub MarksOfState : Type 0
+MarksOfState =
+    (target : Target) (calls : List Call) (id : FuncOrDataId) (j k : ℕ)
+    → (linkage_at calls id j ≡ linkage_held (state_of target (take j calls)) id)
+    × (linkage_of calls id ≡ linkage_held (state_of target calls) id)
+    × (name_of calls id ≡ name_held (state_of target calls) id)
+    × (writable_at calls k j ≡ is_writable (slice_get (state_of target (take j calls)).objects k))
+    × (signature_of calls k ≡ option_map (λ (row : FunctionRow). row.signature) (slice_get (state_of target calls).functions k))
+
+-- an identifier has a definition where some call defines it
+abbrev pub DefinitionsOfState : Type 0
+DefinitionsOfState = (target : Target) (calls : List Call) (id : FuncOrDataId) → is_some (definition_of calls id) ≡ is_defined (state_of target calls) id
 
 abbrev pub MergeAssociates : Type 0
 MergeAssociates = (a b c : Linkage) → merge (merge a b) c ≡ merge a (merge b c)

@@ -294,14 +294,30 @@ fn declare_again(
     ensures kept { OnErr result (functions.new.items ≡ functions.old.items) }
 {
     let known = &mut functions[id.as_u32() as usize];
-    if !known.signature().is_same(signature) {
-        let name = String::from_str(alloc, name)?;
-        let old = known.signature().copy()?;
-        let new = signature.copy()?;
-        return Err(ModuleError::IncompatibleSignature(name, old, new));
+    if let Err(error) = check_signature(alloc, known, name, signature) {
+        return Err(error);
     }
     known.raise(linkage);
     Ok((id, known.linkage()))
+}
+
+// Refuses another signature than the known one. The error keeps the name, the known and the new one.
+fn check_signature(
+    alloc: Global,
+    known: &FunctionDeclaration,
+    name: &str,
+    signature: &Signature,
+) -> ModuleResult<()>
+    ensures accepted { OnOk result (changes_signature name.now signature.now (Some known.now) ≡ None) }
+    ensures refused { IfErr result (λ e. Tells e (changes_signature name.now signature.now (Some known.now))) }
+{
+    if known.signature().is_same(signature) {
+        return Ok(());
+    }
+    let name = String::from_str(alloc, name)?;
+    let old = known.signature().copy()?;
+    let new = signature.copy()?;
+    Err(ModuleError::IncompatibleSignature(name, old, new))
 }
 
 // A new function stands at the end, and its name is found; both, or nothing.
@@ -361,12 +377,23 @@ fn declare_data_again(
     ensures kept { OnErr result (objects.new.items ≡ objects.old.items) }
 {
     let known = &mut objects[id.as_u32() as usize];
-    if known.tls() != tls {
-        let name = String::from_str(alloc, name)?;
-        return Err(ModuleError::IncompatibleDataTls(name, known.tls(), tls));
+    if let Err(error) = check_tls(alloc, known, name, tls) {
+        return Err(error);
     }
     known.raise(linkage, writable);
     Ok((id, known.linkage()))
+}
+
+// Refuses another thread-local mark than the known one. The error keeps the name, the known and the new one.
+fn check_tls(alloc: Global, known: &DataDeclaration, name: &str, tls: bool) -> ModuleResult<()>
+    ensures accepted { OnOk result (changes_tls name.now tls (Some known.now) ≡ None) }
+    ensures refused { IfErr result (λ e. Tells e (changes_tls name.now tls (Some known.now))) }
+{
+    if known.tls() == tls {
+        return Ok(());
+    }
+    let name = String::from_str(alloc, name)?;
+    Err(ModuleError::IncompatibleDataTls(name, known.tls(), tls))
 }
 
 // A new data object stands at the end, and its name is found; both, or nothing.

@@ -1,11 +1,14 @@
 //! Laws of the definitions that the contracts cite. Each function does nothing; its contract is the law.
 
-ghost use Rattle.cranelift_module.specs.Laws.{OneMoreCall, AllCalls, AnyOrder, MergeAssociates, MergeCommutes, MergeRepeats, FunctionFromTarget, DataFromTarget};
+ghost use Rattle.cranelift_module.specs.Laws.{OneMoreCall, AllCalls, MarksOfState, DefinitionsOfState, FunctionsInAnyOrder, DataInAnyOrder, MergeAssociates, MergeCommutes, MergeRepeats, FunctionFromTarget, DataFromTarget};
 
-/// The state that a list of calls leaves, seen as a whole, is the state that the calls leave one by one.
+/// The state that a list of calls leaves, seen as a whole, is the state that the calls leave one by one. The marks of
+/// an identifier, picked out of the list, are those that this state has.
 pub fn state_laws()
     ensures one_more { OneMoreCall }
     ensures all { AllCalls }
+    ensures marks { MarksOfState }
+    ensures definitions { DefinitionsOfState }
 {}
 
 /// Merging linkages is associative, commutative and idempotent.
@@ -15,9 +18,11 @@ pub fn merge_laws()
     ensures repeats { MergeRepeats }
 {}
 
-/// Declarations in another order leave each name the same linkage and the same writable mark.
+/// Accepted calls in another order leave each name the same row: a function with its linkage and signature, a data
+/// object with its linkage and both marks.
 pub fn order_laws()
-    ensures { AnyOrder }
+    ensures functions { FunctionsInAnyOrder }
+    ensures data_objects { DataInAnyOrder }
 {}
 
 /// A target that is made of an identifier stands for that identifier.

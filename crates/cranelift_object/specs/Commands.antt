@@ -1,6 +1,6 @@
 -- The calls that commands stand for.
 use Rattle.std.specs.Prelude.{◌≡◌, ℕ, ◌+◌, Bool, true, false, List, [], ◌∷◌, Option, Some, None, option_map, IfSome}
-use Rattle.cranelift_module.specs.Call.{Call, declare_function, declare_anonymous_function, declare_data, declare_anonymous_data, define_function}
+use Rattle.cranelift_module.specs.Call.{Call, declare_function, declare_anonymous_function, declare_data, declare_anonymous_data, define_function, define_data}
 use Rattle.std.specs.Option.{option_or}
 use Rattle.cranelift_module.specs.declared.error.ModuleError.{ModuleError}
 use Rattle.cranelift_module.specs.LinkState.{LinkState, step}
@@ -19,10 +19,14 @@ makes_data (declare_data name linkage writable tls) = true
 makes_data (declare_anonymous_data writable tls) = true
 makes_data _ = false
 
--- a definition has alignment 1 and no relocations
+-- a call that is made so far: a definition is that of a function, with alignment 1 and no relocations
 abbrev pub IsPlainCall : Call → Type 0
+IsPlainCall (declare_function name linkage signature) = Unit {0}
+IsPlainCall (declare_anonymous_function signature) = Unit {0}
+IsPlainCall (declare_data name linkage writable tls) = Unit {0}
+IsPlainCall (declare_anonymous_data writable tls) = Unit {0}
 IsPlainCall (define_function id align bytes relocs) = (align ≡ 1) × (relocs ≡ [])
-IsPlainCall _ = Unit {0}
+IsPlainCall (define_data id description) = ⊥
 
 -- the first call that is refused behind those before it, with its number from j on
 unfoldable pub first_refusal : LinkState → ℕ → List Call → Option (ℕ × Refusal)

@@ -11,13 +11,14 @@ ghost use Rattle.ir_core.specs.Target.{Target};
 ghost use Rattle.cranelift_object.specs.Part.{first_refused, TellsCall};
 
 use cranelift_module::{
-    FuncId, LibcallNames, Linkage, Module, ModuleError, ModuleReloc, ModuleResult,
+    DataDescription, DataId, FuncId, LibcallNames, Linkage, Module, ModuleError, ModuleReloc,
+    ModuleResult,
 };
 use ir_core::{Signature, TargetIsa};
 use std::alloc::{AllocError, Global};
 use std::marker::Model;
 
-/// A call of a module. Definitions of data come with a later stage.
+/// A call of a module that can change it.
 #[derive(Debug, Drop)]
 pub enum Command {
     DeclareFunction {
@@ -44,6 +45,10 @@ pub enum Command {
         align: u64,
         bytes: Vec<u8>,
         relocs: Vec<ModuleReloc>,
+    },
+    DefineData {
+        id: DataId,
+        desc: DataDescription,
     },
 }
 
@@ -97,12 +102,14 @@ impl CommandPart {
         &self.name
     }
 
+    /// The target.
     pub fn isa(&self) -> &TargetIsa
         ensures { result.now ≡ (self.now).target }
     {
         &self.isa
     }
 
+    /// The texts under which calls into the runtime are linked.
     pub fn libcall_names(&self) -> &LibcallNames
         ensures { result.now ≡ ((self.now).settings).library_names }
     {
@@ -123,12 +130,14 @@ impl CommandPart {
         self.data_sections
     }
 
+    /// The calls, in order.
     pub fn commands(&self) -> &[Command]
         ensures { map command_view result.now ≡ (self.now).calls }
     {
         &self.commands
     }
 
+    /// Sets the name of the source file. Where memory runs out, the part is as it was.
     pub fn set_name(&mut self, name: &[u8]) -> Result<(), AllocError>
         ensures ok { OnOk result (self.new ≡ record self.old { settings = record (self.old).settings { file_name = name.now } }) }
         ensures err { OnErr result (self.new ≡ self.old) }
@@ -137,30 +146,35 @@ impl CommandPart {
         Ok(())
     }
 
+    /// Sets the target.
     pub fn set_isa(&mut self, isa: TargetIsa)
         ensures { self.new ≡ record self.old { target = isa } }
     {
         self.isa = isa;
     }
 
+    /// Sets the texts under which calls into the runtime are linked.
     pub fn set_libcall_names(&mut self, names: LibcallNames)
         ensures { self.new ≡ record self.old { settings = record (self.old).settings { library_names = names } } }
     {
         self.libcall_names = names;
     }
 
+    /// Sets whether each function gets a section of its own.
     pub fn set_function_sections(&mut self, on: bool)
         ensures { self.new ≡ record self.old { settings = record (self.old).settings { function_sections = on } } }
     {
         self.function_sections = on;
     }
 
+    /// Sets whether each data object gets a section of its own.
     pub fn set_data_sections(&mut self, on: bool)
         ensures { self.new ≡ record self.old { settings = record (self.old).settings { data_sections = on } } }
     {
         self.data_sections = on;
     }
 
+    /// Sets the calls, in order.
     pub fn set_commands(&mut self, commands: Vec<Command>)
         ensures { self.new ≡ record self.old { calls = map command_view commands.items } }
     {
@@ -178,6 +192,7 @@ pub fn apply<M: Module>(backend: &mut M, commands: &[Command]) -> Result<(), (us
     ensures ok { OnOk result (M.state backend.new ≡ steps (M.state backend.old) (map command_view commands.now)) }
     ensures none { OnOk result (first_refusal (M.state backend.old) 0 (map command_view commands.now) ≡ None) }
     ensures refused { IfErr result (λ e. TellsAt e.0 e.1 (first_refusal (M.state backend.old) 0 (map command_view commands.now))) }
+    ensures number { IfErr result (λ e. e.0 < length commands.now) }
     ensures begun { IfErr result (λ e. M.state backend.new ≡ steps (M.state backend.old) (take e.0 (map command_view commands.now))) }
     ensures keeps { M.Keeps backend.old backend.new }
     ensures whole { (target : Target) → M.state backend.old ≡ state_of target [] → OnOk result (M.state backend.new ≡ state_of target (map command_view commands.now)) }
@@ -231,5 +246,6 @@ fn make_call<M: Module>(backend: &mut M, command: &Command) -> ModuleResult<()>
             bytes,
             relocs,
         } => backend.define_function_bytes(*id, *align, bytes, relocs),
+        Command::DefineData { id: _, desc: _ } => unreachable!(),
     }
 }

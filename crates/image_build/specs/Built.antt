@@ -1,12 +1,12 @@
 -- What a build gives for a list of parts, and what refuses it.
 use Rattle.std.specs.Prelude.{◌≡◌, ℕ, List, [], ◌∷◌, Option, Some, None, option_map, IsSome, IsSomeAnd}
-use Rattle.object_core.specs.ElfRows.{elf_table_of}
+use Rattle.object_core.specs.LinkTable.{LinkTable, elf}
 use Rattle.object_core.specs.declared.error.EmitError.{EmitError}
 use Rattle.object_core.specs.declared.error.EmitError.TheVariants as limits
 use Rattle.cranelift_module.specs.declared.error.ModuleError.{ModuleError}
 use Rattle.object_elf.specs.ElfHolds.{ElfHolds}
 use Rattle.cranelift_module.specs.Refusal.{refusal_told}
-use Rattle.cranelift_object.specs.Linked.{object_of}
+use Rattle.cranelift_object.specs.Linked.{link_table}
 use Rattle.cranelift_object.specs.Part.{PartData, PartRefusal, at_start, at_call, at_end, over, part_state, part_cause}
 use Rattle.image_build.specs.declared.error.BuildError.{BuildError}
 use Rattle.image_build.specs.declared.error.BuildCause.{BuildCause}
@@ -17,16 +17,22 @@ use Rattle.image_build.specs.declared.error.Place.TheVariants.{Start, Command, E
 -- a part of a build, without where its texts and bytes lie
 pub data BuildPart : Type 0 where
   commands : PartData → BuildPart
+  image : List ℕ → BuildPart
 
--- the bytes are the file of a part
+-- the bytes hold a link table, by the layout of its format
+abbrev pub FileHolds : List ℕ → LinkTable → Type 0
+FileHolds b (elf table) = ElfHolds b table
+
+-- the bytes are the file of a part: they hold its link table
 abbrev pub IsFileOf : PartData → List ℕ → Type 0
-IsFileOf part b = ElfHolds b (elf_table_of (object_of part.settings (part_state part)))
+IsFileOf part b = FileHolds b (link_table part.settings (part_state part))
 
--- The bytes are what the parts build: nothing for no part, and the file of one part. Files of more
--- parts aren't built yet.
+-- The bytes are what the parts build: nothing for no part, and the file of one part. Images and files of
+-- more parts aren't built yet.
 abbrev pub Built : List BuildPart → List ℕ → Type 0
 Built [] b = b ≡ []
 Built (commands part ∷ []) b = IsFileOf part b
+Built (image bytes ∷ []) b = ⊥
 Built (p ∷ q ∷ ps) b = ⊥
 
 -- what refuses a build: a part by its number, from 0, and its first cause
@@ -35,6 +41,7 @@ pub record BuildRefusal : Type 0 where
   pub refusal : PartRefusal
 
 abbrev pub refused_part : ℕ → BuildPart → Option BuildRefusal
+refused_part k (image bytes) = None
 refused_part k (commands part) = option_map (λ r. record { part = k; refusal = r }) (part_cause part)
 
 -- the first cause that refuses a build

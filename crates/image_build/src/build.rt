@@ -97,5 +97,6 @@ pub fn build_image(alloc: Global, parts: &[Part]) -> Result<Vec<u8>, BuildError>
     match parts {
         [] => Ok(Vec::new(alloc)),
         [Part::Commands(part), ..] => build_part(alloc, part),
+        [Part::Image(_), ..] => unreachable!(),
     }
 }

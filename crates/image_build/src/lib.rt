@@ -9,5 +9,6 @@ mod error;
 mod part;
 
 pub use build::build_image;
+pub use cranelift_object::{Command, CommandPart, apply};
 pub use error::{BuildCause, BuildError, Place};
 pub use part::Part;

@@ -2,9 +2,11 @@
 
 use cranelift_object::CommandPart;
 
-/// A part of a build. Images come with a later stage.
+/// A part of a build.
 #[derive(Drop)]
 pub enum Part {
     /// A part that is made by the calls of a module.
     Commands(CommandPart),
+    /// The bytes of a Mach-O file, thin or fat. None is built so far.
+    Image(Vec<u8>),
 }

@@ -1,7 +1,7 @@
 pub mod Taking
-pub mod OneWord
 pub mod Keys
 pub mod EachOf
 pub mod Judging
+pub mod Endings
 pub mod PartList
 pub mod Buildable

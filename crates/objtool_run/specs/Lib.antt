@@ -4,3 +4,4 @@ pub mod Form
 pub mod SignatureForm
 pub mod Script
 pub mod Run
+pub mod Ends

@@ -1,27 +1,34 @@
--- What a run with the word `build` does with its input.
-use Rattle.std.specs.Prelude.{◌≡◌, ◌≢◌, ℕ, ◌⊎◌, List, Some, None, string_bytes}
+-- What a request gives over its input.
+use Rattle.std.specs.Prelude.{◌≡◌, ◌≢◌, ◌<◌, ◌≤◌, ℕ, ◌⊎◌, List, length, Option, Some, None, IfSome, string_bytes}
+use Rattle.std.specs.List.{All}
 use Rattle.hex.specs.Hex.{encode_lower}
-use Rattle.byte_core.specs.Count.{Rose}
-use Rattle.byte_core.specs.Outside.{Outside, Appends, AppendsFront}
+use Rattle.byte_core.specs.Outside.{Outside, IsAtEnd}
 use Rattle.image_build.specs.declared.error.BuildError.{BuildError}
 use Rattle.image_build.specs.declared.error.BuildCause.TheVariants as causes
 use Rattle.image_build.specs.Built.{BuildPart, Built, BuildRefusal, TellsBuild, build_cause}
 use Rattle.image_build.specs.Texts.{build_text}
 use Rattle.objtool_run.specs.Fault.{line}
+use Rattle.objtool_run.specs.declared.words.Request.{Request}
+use Rattle.objtool_run.specs.declared.words.Request.TheVariants.{Build}
 use Rattle.objtool_run.specs.Script.{HasNoJson, HasOtherForm, StandsFor}
 use Rattle.objtool_run.specs.declared.fault.Fault.{Fault}
 use Rattle.objtool_run.specs.declared.fault.Fault.TheVariants.{Refused, BadWords, ReadFailed, WriteFailed, OutOfMemory, NotUnderstood, TooLong, NotYet}
+
+-- an input has at most so many bytes
+abbrev pub input_limit : ℕ
+input_limit = 67108864
 
 -- the output for some bytes: two lower-case hexadecimal digits a byte, and a newline
 abbrev pub line_of : List ℕ → List ℕ
 line_of bytes = line (encode_lower bytes)
 
--- the text is the line of what the input's parts build, and nothing refuses them
+-- the text is the line of bytes that are what the input's parts build, and nothing refuses these
 pub record IsAnswer (input text : List ℕ) : Type 0 where
   pub parts : List BuildPart
   pub stands : StandsFor input parts
   pub valid : build_cause parts ≡ None
   pub bytes : List ℕ
+  pub are_bytes : All (λ x. x < 256) bytes
   pub built : Built parts bytes
   pub text_is : text ≡ line_of bytes
 
@@ -36,16 +43,16 @@ pub record IsRefusal (input text : List ℕ) : Type 0 where
   pub tells : TellsBuild error (build_cause parts)
   pub text_is : text ≡ line (build_text error)
 
--- what a fault says of the input; those of the words, the streams and memory say nothing of it
-abbrev pub Explains : List ℕ → Fault → Type 0
-Explains input (Refused text) = IsRefusal input (string_bytes text)
-Explains input BadWords = Unit {0}
-Explains input ReadFailed = Unit {0}
-Explains input WriteFailed = Unit {0}
-Explains input OutOfMemory = Unit {0}
-Explains input NotUnderstood = HasNoJson input
-Explains input TooLong = Unit {0}
-Explains input NotYet = HasOtherForm input
+-- what a fault says of the input of a build; those of the words, the streams and memory say nothing of it
+abbrev pub ExplainsBuild : List ℕ → Fault → Type 0
+ExplainsBuild input (Refused text) = IsRefusal input (string_bytes text)
+ExplainsBuild input BadWords = Unit {0}
+ExplainsBuild input ReadFailed = Unit {0}
+ExplainsBuild input WriteFailed = Unit {0}
+ExplainsBuild input OutOfMemory = Unit {0}
+ExplainsBuild input NotUnderstood = HasNoJson input
+ExplainsBuild input TooLong = Unit {0}
+ExplainsBuild input NotYet = HasOtherForm input
 
 -- the faults that an input alone can have
 abbrev pub IsOfInput : Fault → Type 0
@@ -58,38 +65,78 @@ IsOfInput NotUnderstood = Unit {0}
 IsOfInput TooLong = ⊥
 IsOfInput NotYet = Unit {0}
 
--- the line of an answer was put behind what the output had taken
-pub record Answers (input : List ℕ) (old new : Outside) : Type 0 where
-  pub text : List ℕ
-  pub answer : IsAnswer input text
-  pub written : Appends old.output new.output text
+-- the faults that come of what a whole input says
+abbrev pub IsJudged : Fault → Type 0
+IsJudged (Refused text) = Unit {0}
+IsJudged BadWords = ⊥
+IsJudged ReadFailed = ⊥
+IsJudged WriteFailed = ⊥
+IsJudged OutOfMemory = ⊥
+IsJudged NotUnderstood = Unit {0}
+IsJudged TooLong = ⊥
+IsJudged NotYet = Unit {0}
 
--- a front of the line of an answer was put behind what the output had taken
-pub record AnswersFront (input : List ℕ) (old new : Outside) : Type 0 where
-  pub text : List ℕ
-  pub answer : IsAnswer input text
-  pub written : AppendsFront old.output new.output text
-
--- a front of this text was put behind what the fault text had taken, the whole where no such write failed
-pub record Tells (text : List ℕ) (old new : Outside) : Type 0 where
-  pub front : AppendsFront old.errors new.errors text
-  pub whole : (Rose old.err_faults new.err_faults → ⊥) → Appends old.errors new.errors text
-
--- the text of the refusal of an input's parts was written, whole where no such write failed
-pub record Refuses (input : List ℕ) (old new : Outside) : Type 0 where
-  pub text : List ℕ
-  pub refusal : IsRefusal input text
-  pub told : Tells text old new
-
--- how a run over an input may end, apart from failed reads, want of memory and the limit of its length
-pub record Judges (input : List ℕ) (status : ℕ) : Type 0 where
-  pub unread : HasNoJson input → status ≡ 6
-  pub other : HasOtherForm input → status ≡ 8
-  pub refused : (parts : List BuildPart) (r : BuildRefusal) → StandsFor input parts → build_cause parts ≡ Some r → status ≡ 1
-  pub valid : (parts : List BuildPart) → StandsFor input parts → build_cause parts ≡ None → (status ≡ 0) ⊎ (status ≡ 4)
+-- the faults that a request can have before its output is written
+abbrev pub IsOfResponse : Fault → Type 0
+IsOfResponse (Refused text) = Unit {0}
+IsOfResponse BadWords = ⊥
+IsOfResponse ReadFailed = Unit {0}
+IsOfResponse WriteFailed = ⊥
+IsOfResponse OutOfMemory = Unit {0}
+IsOfResponse NotUnderstood = Unit {0}
+IsOfResponse TooLong = Unit {0}
+IsOfResponse NotYet = Unit {0}
 
 -- the fault of a refused build: its text, but for want of memory, which no text names
 abbrev pub TellsRefusal : BuildError → Fault → Type 0
 TellsRefusal error (Refused text) = (error.cause ≢ causes.OutOfMemory) × (string_bytes text ≡ line (build_text error))
 TellsRefusal error OutOfMemory = Unit {0}
 TellsRefusal error _ = ⊥
+
+-- how a build over an input may end, apart from failed reads, want of memory and the limit of its length
+pub record JudgesBuild (input : List ℕ) (status : ℕ) : Type 0 where
+  pub unread : HasNoJson input → status ≡ 6
+  pub other : HasOtherForm input → status ≡ 8
+  pub refused : (parts : List BuildPart) (r : BuildRefusal) → StandsFor input parts → build_cause parts ≡ Some r → status ≡ 1
+  pub valid : (parts : List BuildPart) → StandsFor input parts → build_cause parts ≡ None → (status ≡ 0) ⊎ (status ≡ 4)
+
+-- -- by request, over the input where it is known
+
+-- the output that a request asks for
+abbrev pub IsOutput : Request → Option (List ℕ) → List ℕ → Type 0
+IsOutput Build input text = IfSome input (λ known. IsAnswer known text)
+
+-- the text is the refusal that the request's input has
+abbrev pub IsRefused : Request → Option (List ℕ) → List ℕ → Type 0
+IsRefused Build input text = IfSome input (λ known. IsRefusal known text)
+
+-- the input has no reading
+abbrev pub IsUnread : Request → Option (List ℕ) → Type 0
+IsUnread Build input = IfSome input HasNoJson
+
+-- the input has a reading of another form than is built so far
+abbrev pub IsOther : Request → Option (List ℕ) → Type 0
+IsOther Build input = IfSome input HasOtherForm
+
+-- what a fault says of the input of a request
+abbrev pub Explains : Request → Option (List ℕ) → Fault → Type 0
+Explains Build input fault = IfSome input (λ known. ExplainsBuild known fault)
+
+-- the input of the request was taken to its end
+abbrev pub IsTaken : Request → Outside → Type 0
+IsTaken Build now = IsAtEnd now
+
+-- how a request may end, apart from failed reads, want of memory and the limit of its input's length
+abbrev pub Judges : Request → Option (List ℕ) → ℕ → Type 0
+Judges Build input status = IfSome input (λ known. JudgesBuild known status)
+
+-- nothing refuses the parts that the input stands for
+pub record IsValid (input : List ℕ) : Type 0 where
+  pub parts : List BuildPart
+  pub stands : StandsFor input parts
+  pub valid : build_cause parts ≡ None
+
+-- the input is known and within the limit, and nothing refuses it
+abbrev pub IsAnswerable : Request → Option (List ℕ) → Type 0
+IsAnswerable Build None = ⊥
+IsAnswerable Build (Some input) = IsValid input × (length input ≤ input_limit)

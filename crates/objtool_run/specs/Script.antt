@@ -14,7 +14,7 @@ use Rattle.cranelift_module.specs.declared.linkage.Linkage.{Linkage}
 use Rattle.cranelift_module.specs.declared.linkage.Linkage.TheVariants.{Import, Local, Preemptible, Hidden, Export}
 use Rattle.cranelift_module.specs.Call.{Call, declare_function, declare_anonymous_function, declare_data, declare_anonymous_data, define_function}
 use Rattle.cranelift_module.specs.LibraryNames.{usual_texts}
-use Rattle.image_build.specs.Built.{BuildPart, commands}
+use Rattle.image_build.specs.Built.{BuildPart, commands, image}
 use Rattle.objtool_run.specs.SignatureForm.{signature_at}
 use Rattle.objtool_run.specs.Form.{◌>>=◌, each_of, text_at, items_at, u32_at, mark_at, hex_at, with_keys}
 
@@ -137,4 +137,5 @@ StandsFor input parts = (d : Data) × HasJson input d × (parts_of d ≡ Some pa
 -- the parts have fewer commands than there are identifiers
 abbrev pub HasFewCalls : List BuildPart → Type 0
 HasFewCalls [] = Unit {0}
+HasFewCalls (image bytes ∷ parts) = HasFewCalls parts
 HasFewCalls (commands part ∷ parts) = (length part.calls < 4294967295) × HasFewCalls parts

@@ -1,7 +1,11 @@
--- The words of the command line.
-use Rattle.std.specs.Prelude.{◌≡◌, List, [], ◌∷◌, map, codes, string_bytes, String}
-use Rattle.std.specs.declared.alloc.Global.{Global}
+-- What the words of a command line ask for.
+use Rattle.std.specs.Prelude.{ℕ, List, [], ◌∷◌, codes, if◌then◌else◌, Option, Some, None}
+use Rattle.std.specs.Str.{bytes_eq}
+use Rattle.objtool_run.specs.declared.words.Request.{Request}
+use Rattle.objtool_run.specs.declared.words.Request.TheVariants.{Build}
 
--- the one word `build`
-abbrev pub IsBuild : List (String Global) → Type 0
-IsBuild words = map string_bytes words ≡ codes "build" ∷ []
+-- the request that the words name, if any: the one word `build`
+abbrev pub request_of : List (List ℕ) → Option Request
+request_of [] = None
+request_of (word ∷ []) = if bytes_eq word (codes "build") then Some Build else None
+request_of (word ∷ more ∷ rest) = None

@@ -1,9 +1,10 @@
 //! The command `build`: from the bytes of an input to the line of the output.
 
-ghost use Rattle.std.specs.Prelude.{◌≡◌, string_bytes, IfOk, IfErr};
+ghost use Rattle.std.specs.Prelude.{◌≡◌, ◌<◌, string_bytes, IfOk, IfErr};
+ghost use Rattle.std.specs.List.{All};
 ghost use Rattle.image_build.specs.Texts.{build_text};
 ghost use Rattle.objtool_run.specs.Fault.{line};
-ghost use Rattle.objtool_run.specs.Run.{IsAnswer, Explains, IsOfInput, TellsRefusal, line_of};
+ghost use Rattle.objtool_run.specs.Run.{IsAnswer, ExplainsBuild, IsOfInput, TellsRefusal, line_of};
 
 use crate::fault::Fault;
 use crate::script::part::read_parts;
@@ -12,7 +13,8 @@ use std::alloc::{AllocError, Global};
 
 /// The output for some bytes: their lower-case hexadecimal and a newline.
 fn line_of(alloc: Global, bytes: &[u8]) -> Result<Vec<u8>, AllocError>
-    ensures { IfOk result (λ text. text.items ≡ line_of bytes.now) }
+    ensures text { IfOk result (λ text. text.items ≡ line_of bytes.now) }
+    ensures are_bytes { All (λ x. x < 256) bytes.now }
 {
     let mut text = hex::encode(alloc, bytes)?.into_bytes();
     text.push(b'\n')?;
@@ -42,7 +44,7 @@ fn refused(alloc: Global, error: &BuildError) -> Fault
 /// The line of the file that an input's parts build.
 pub fn answer(alloc: Global, input: &[u8]) -> Result<Vec<u8>, Fault>
     ensures ok { IfOk result (λ text. IsAnswer input.now text.items) }
-    ensures explained { IfErr result (λ fault. Explains input.now fault) }
+    ensures explained { IfErr result (λ fault. ExplainsBuild input.now fault) }
     ensures of_input { IfErr result (λ fault. IsOfInput fault) }
 {
     let parts = match read_parts(alloc, input) {

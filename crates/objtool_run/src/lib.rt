@@ -19,4 +19,3 @@ pub use output::{write_fault_text, write_output};
 pub use program::run;
 pub use script::command::commands_of;
 pub use script::form::FormError;
-pub use words::is_build;

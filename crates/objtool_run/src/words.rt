@@ -1,14 +1,21 @@
 //! The words of the command line.
 
-ghost use Rattle.std.specs.Prelude.{◌↔◌, IsTrue};
-ghost use Rattle.objtool_run.specs.Words.{IsBuild};
+ghost use Rattle.std.specs.Prelude.{◌≡◌, map, string_bytes};
+ghost use Rattle.objtool_run.specs.Words.{request_of};
 
-/// The words are `build` alone.
-pub fn is_build(words: &[String]) -> bool
-    ensures { IsTrue result ↔ IsBuild words.now }
+/// What the words of a command line ask for.
+#[derive(Clone, Copy, Debug, PartialEq, Eq)]
+pub(crate) enum Request {
+    /// The file of the input's parts, as a line of hexadecimal.
+    Build,
+}
+
+/// The request that the words name, if any.
+pub(crate) fn request_of(words: &[String]) -> Option<Request>
+    ensures { result ≡ request_of (map string_bytes words.now) }
 {
     match words {
-        [word] => word.as_str() == "build",
-        _ => false,
+        [word] if word.as_str() == "build" => Some(Request::Build),
+        _ => None,
     }
 }

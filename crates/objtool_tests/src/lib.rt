@@ -5,3 +5,5 @@
 mod build_tests;
 #[cfg(test)]
 mod declaration_tests;
+#[cfg(test)]
+mod files;

@@ -7,7 +7,7 @@ ghost use Rattle.cranelift_object.specs.Command.{command_view};
 ghost use Rattle.image_build.specs.Parts.{part_view, IsBuildable};
 ghost use Rattle.objtool_run.specs.Form.{Gives};
 ghost use Rattle.objtool_run.specs.Script.{elf_target, part_of, part_with, parts_of, commands_of, StandsFor, HasFewCalls};
-ghost use Rattle.objtool_run.specs.Run.{Explains, IsOfInput};
+ghost use Rattle.objtool_run.specs.Run.{ExplainsBuild, IsOfInput};
 
 use crate::fault::Fault;
 use crate::script::command::commands_of;
@@ -96,7 +96,7 @@ fn parts_of(alloc: Global, value: &Value) -> Result<Vec<Part>, FormError>
 pub fn read_parts(alloc: Global, input: &[u8]) -> Result<Vec<Part>, Fault>
     ensures stands { IfOk result (λ parts. StandsFor input.now (map part_view parts.items)) }
     ensures buildable { IfOk result (λ parts. IsBuildable (map part_view parts.items)) }
-    ensures explained { IfErr result (λ fault. Explains input.now fault) }
+    ensures explained { IfErr result (λ fault. ExplainsBuild input.now fault) }
     ensures of_input { IfErr result (λ fault. IsOfInput fault) }
 {
     let value = match Value::from_slice(alloc, input) {

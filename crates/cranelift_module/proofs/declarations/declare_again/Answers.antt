@@ -1,30 +1,14 @@
-use Rattle.std.proofs.Common.{◌<◌, ◌∙◌, ap, sym, Some, option_map, length, refl, rules}
+use Rattle.std.proofs.Common.{◌<◌, ◌∙◌, ap, sym, subst, Some, option_map, length, refl, rules}
 use Rattle.std.specs.List.{position_from}
 use Rattle.cranelift_module.specs.Rows.{FunctionRow}
 use Rattle.cranelift_module.specs.LinkState.{is_function_named, raised_function}
-use Rattle.cranelift_module.specs.Refusal.{changes_signature}
+use Rattle.cranelift_module.specs.Refusal.{changes_signature, Tells}
 use Rattle.cranelift_module.proofs.Places.{set-changed, slice_get-set, position-below, position-changed, with_first-at, any-at}
-use Rattle.cranelift_module.proofs.Names.{find-row, changes-refused, changes-none}
-use Rattle.ir_core.specs.Signature.{SignatureData, is_same_signature}
-use Rattle.std.specs.String.{string_bytes}
+use Rattle.cranelift_module.proofs.Names.{find-row}
 use Rattle.cranelift_module.proofs.declarations.declare_again.Goals as goal
 
 pub index_mut-known-requires : goal.index_mut-known-requires
 index_mut-known-requires c = let h : c.args.id < length c.args.functions.now.items = position-below (is_function_named c.args.name.now) c.args.functions.now.items c.args.id c.requires in search rules
-
-pub returns-then-not-is_same-clause-refused : goal.returns-then-not-is_same-clause-refused
-returns-then-not-is_same-clause-refused c =
-    ap (changes_signature c.args.name.now c.args.signature.now) (find-row (is_function_named c.args.name.now) c.args.functions.now.items c.args.id c.index_mut-known.result.now c.requires (rw (← c.as_u32.ensures) c.index_mut-known.ensures.value))
-    ∙ changes-refused c.args.name.now (string_bytes c.in_ok-name.name) c.args.signature.now c.in_ok-old.old c.in_ok-new.new c.index_mut-known.result.now
-    (ap (λ (s : SignatureData). is_same_signature s c.args.signature.now) (sym c.signature.ensures) ∙ sym c.is_same.ensures.same ∙ c.if-not-is_same.true) c.in_ok-name.ensures.ok
-    (c.in_ok-old.ensures ∙ c.signature-then-not-is_same.ensures)
-    c.in_ok-new.ensures
-
-pub returns-clause-accepted : goal.returns-clause-accepted
-returns-clause-accepted c =
-    ap (changes_signature c.args.name.now c.args.signature.now) (find-row (is_function_named c.args.name.now) c.args.functions.now.items c.args.id c.index_mut-known.result.now c.requires (rw (← c.as_u32.ensures) c.index_mut-known.ensures.value))
-    ∙ changes-none c.args.name.now c.args.signature.now c.index_mut-known.result.now
-    (ap (λ (s : SignatureData). is_same_signature s c.args.signature.now) (sym c.signature.ensures) ∙ sym c.is_same.ensures.same ∙ c.if-not-is_same.false)
 
 pub returns-clause-found : goal.returns-clause-found
 returns-clause-found c = set-changed (raised_function c.args.linkage) c.args.functions.now.items c.args.id c.as_u32.result c.index_mut-known.result.now c.raise.new.self c.as_u32.ensures c.raise.ensures c.index_mut-known.ensures.value
@@ -47,3 +31,9 @@ returns-clause-linkage c =
 
 pub returns-clause-known : goal.returns-clause-known
 returns-clause-known c = any-at (is_function_named c.args.name.now) c.args.functions.now.items c.args.id c.requires
+
+pub returns-clause-accepted : goal.returns-clause-accepted
+returns-clause-accepted c = ap (changes_signature c.args.name.now c.args.signature.now) (find-row (is_function_named c.args.name.now) c.args.functions.now.items c.args.id c.index_mut-known.result.now c.requires (rw (← c.as_u32.ensures) c.index_mut-known.ensures.value)) ∙ c.in_default.ensures.accepted
+
+pub returns-in-Err-clause-refused : goal.returns-in-Err-clause-refused
+returns-in-Err-clause-refused c = subst (Tells c.in-Err.error) (sym (ap (changes_signature c.args.name.now c.args.signature.now) (find-row (is_function_named c.args.name.now) c.args.functions.now.items c.args.id c.index_mut-known.result.now c.requires (rw (← c.as_u32.ensures) c.index_mut-known.ensures.value)))) c.in-Err.ensures.refused

@@ -1,11 +1,10 @@
-use Rattle.std.proofs.Common.{◌<◌, ◌∙◌, ap, sym, Some, option_map, length, refl, rules}
+use Rattle.std.proofs.Common.{◌<◌, ◌∙◌, ap, sym, subst, Some, option_map, length, refl, rules}
 use Rattle.std.specs.List.{position_from}
 use Rattle.cranelift_module.specs.Rows.{DataRow}
 use Rattle.cranelift_module.specs.LinkState.{is_data_named, raised_data}
-use Rattle.cranelift_module.specs.Refusal.{changes_tls}
+use Rattle.cranelift_module.specs.Refusal.{changes_tls, Tells}
 use Rattle.cranelift_module.proofs.Places.{set-changed, slice_get-set, position-below, position-changed, with_first-at, any-at}
-use Rattle.cranelift_module.proofs.Names.{find-row, tls-refused, tls-none}
-use Rattle.std.specs.String.{string_bytes}
+use Rattle.cranelift_module.proofs.Names.{find-row}
 use Rattle.cranelift_module.proofs.declarations.declare_data_again.Goals as goal
 
 pub index_mut-known-requires : goal.index_mut-known-requires
@@ -33,12 +32,8 @@ returns-clause-linkage c =
 pub returns-clause-known : goal.returns-clause-known
 returns-clause-known c = any-at (is_data_named c.args.name.now) c.args.objects.now.items c.args.id c.requires
 
-pub returns-then-tls-clause-refused : goal.returns-then-tls-clause-refused
-returns-then-tls-clause-refused c =
-    ap (changes_tls c.args.name.now c.args.tls) (find-row (is_data_named c.args.name.now) c.args.objects.now.items c.args.id c.index_mut-known.result.now c.requires (rw (← c.as_u32.ensures) c.index_mut-known.ensures.value))
-    ∙ tls-refused c.args.name.now (string_bytes c.in_ok-name.name) c.args.tls c.tls-then-tls.result c.tls.result c.index_mut-known.result.now c.tls.ensures c.tls-then-tls.ensures c.if-tls.true c.in_ok-name.ensures.ok
-
 pub returns-clause-accepted : goal.returns-clause-accepted
-returns-clause-accepted c =
-    ap (changes_tls c.args.name.now c.args.tls) (find-row (is_data_named c.args.name.now) c.args.objects.now.items c.args.id c.index_mut-known.result.now c.requires (rw (← c.as_u32.ensures) c.index_mut-known.ensures.value))
-    ∙ tls-none c.args.name.now c.args.tls c.tls.result c.index_mut-known.result.now c.tls.ensures c.if-tls.false
+returns-clause-accepted c = ap (changes_tls c.args.name.now c.args.tls) (find-row (is_data_named c.args.name.now) c.args.objects.now.items c.args.id c.index_mut-known.result.now c.requires (rw (← c.as_u32.ensures) c.index_mut-known.ensures.value)) ∙ c.in_default.ensures.accepted
+
+pub returns-in-Err-clause-refused : goal.returns-in-Err-clause-refused
+returns-in-Err-clause-refused c = subst (Tells c.in-Err.error) (sym (ap (changes_tls c.args.name.now c.args.tls) (find-row (is_data_named c.args.name.now) c.args.objects.now.items c.args.id c.index_mut-known.result.now c.requires (rw (← c.as_u32.ensures) c.index_mut-known.ensures.value)))) c.in-Err.ensures.refused

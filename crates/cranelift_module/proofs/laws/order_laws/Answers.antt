@@ -1,7 +1,11 @@
-use Rattle.cranelift_module.specs.Call.{function_linkage, data_linkage, marks_writable}
-use Rattle.std.proofs.lemmas.List.Sorted.{list_any-IsPermutation}
-use Rattle.cranelift_module.proofs.OrderLaws.{greatest-IsPermutation}
+use Rattle.cranelift_module.specs.LinkState.{state_of}
+use Rattle.cranelift_module.proofs.RowOrder.{function_any_order, data_any_order}
 use Rattle.cranelift_module.proofs.laws.order_laws.Goals as goal
 
-pub returns : goal.returns
-returns c = λ name calls others h. (greatest-IsPermutation (function_linkage name) calls others h, greatest-IsPermutation (data_linkage name) calls others h, list_any-IsPermutation (marks_writable name) calls others h)
+pub returns-clause-functions : goal.returns-clause-functions
+unfolding state_of
+returns-clause-functions c = function_any_order
+
+pub returns-clause-data_objects : goal.returns-clause-data_objects
+unfolding state_of
+returns-clause-data_objects c = data_any_order

@@ -1,5 +1,5 @@
 use Rattle.cranelift_object.proofs.ImportLaws.{import_names, import_signatures, import_functions}
-use Rattle.cranelift_object.proofs.tests.import.Goals as goal
+use Rattle.file_tests.proofs.module_tests.import.Goals as goal
 
 pub returns-clause-names : goal.returns-clause-names
 returns-clause-names c = import_names _ _ c.args.id _ _ c.declare_func_in_func.ensures.ok c.declare_func_in_func.ensures.kept

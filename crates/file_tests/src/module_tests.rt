@@ -2,16 +2,15 @@ ghost use Rattle.std.specs.Prelude.{◌≡◌, ◌≢◌, ◌≤◌, ◌<◌, �
 ghost use Rattle.cranelift_object.specs.Commands.{command_view, IsPlainCall};
 ghost use Rattle.ir_core.specs.declared.target.BinaryFormat.TheVariants.{Macho};
 
-use crate::{Command, CommandPart, ObjectBuilder, ObjectModule, apply};
 use cranelift_module::{
     DataDescription, DataId, FuncId, FuncOrDataId, Linkage, Module, ModuleError, ModuleRelocTarget,
     ModuleResult, default_libcall_names,
 };
+use cranelift_object::{Command, CommandPart, ObjectBuilder, ObjectModule, VERSION, apply};
 use ir_core::{
     Architecture, BinaryFormat, CallConv, Environment, FuncRef, Function, Signature, System,
     TargetIsa, Triple,
 };
-use object_core::{SymbolKind, SymbolSection};
 use std::alloc::{AllocError, Global};
 use std::process::Abort;
 use std::test::Fail;
@@ -47,7 +46,7 @@ fn opened(alloc: Global) -> Result<ObjectModule, ModuleError>
     ObjectModule::new(builder)
 }
 
-#[tactic(auto, using(crate::proofs::ApplyLaws::call_functions, crate::proofs::ApplyLaws::call_objects, crate::proofs::ApplyLaws::place_below))]
+#[tactic(auto, using(cranelift_object::proofs::ApplyLaws::call_functions, cranelift_object::proofs::ApplyLaws::call_objects, cranelift_object::proofs::ApplyLaws::place_below))]
 fn declare(
     module: &mut ObjectModule,
     alloc: Global,
@@ -63,7 +62,7 @@ fn declare(
     module.declare_function(name, linkage, &signature)
 }
 
-#[tactic(auto, using(crate::proofs::ApplyLaws::call_functions, crate::proofs::ApplyLaws::call_objects, crate::proofs::ApplyLaws::place_below))]
+#[tactic(auto, using(cranelift_object::proofs::ApplyLaws::call_functions, cranelift_object::proofs::ApplyLaws::call_objects, cranelift_object::proofs::ApplyLaws::place_below))]
 fn declare_data(module: &mut ObjectModule, name: &str, tls: bool) -> ModuleResult<DataId>
     requires { length (module.old).state.objects < 100 }
     ensures functions { length (module.new).state.functions ≤ length (module.old).state.functions + 1 }
@@ -73,16 +72,7 @@ fn declare_data(module: &mut ObjectModule, name: &str, tls: bool) -> ModuleResul
     module.declare_data(name, Linkage::Import, true, tls)
 }
 
-#[tactic(auto, using(crate::proofs::ApplyLaws::call_functions, crate::proofs::ApplyLaws::call_objects))]
-fn declare_unnamed_data(module: &mut ObjectModule) -> ModuleResult<DataId>
-    requires { length (module.old).state.objects < 100 }
-    ensures functions { length (module.new).state.functions ≤ length (module.old).state.functions + 1 }
-    ensures objects { length (module.new).state.objects ≤ length (module.old).state.objects + 1 }
-{
-    module.declare_anonymous_data(false, false)
-}
-
-#[tactic(auto, using(crate::proofs::ApplyLaws::call_functions, crate::proofs::ApplyLaws::call_objects))]
+#[tactic(auto, using(cranelift_object::proofs::ApplyLaws::call_functions, cranelift_object::proofs::ApplyLaws::call_objects))]
 fn define(module: &mut ObjectModule, id: FuncId, bytes: &[u8]) -> ModuleResult<()>
     ensures functions { length (module.new).state.functions ≤ length (module.old).state.functions + 1 }
     ensures objects { length (module.new).state.objects ≤ length (module.old).state.objects + 1 }
@@ -105,99 +95,6 @@ fn an_exported_function_has_a_file_of_592_bytes(rt: HostRuntime) -> Result<(), F
     assert_eq!(rt; product.functions().len(), 1);
     assert_eq!(rt; product.emit(alloc)?.len(), 592);
     Ok(())
-}
-
-#[test]
-fn a_second_definition_is_refused_and_the_first_stays(rt: HostRuntime) -> Result<(), Fail> {
-    let alloc = rt.alloc();
-    let mut module = opened(alloc)?;
-    let main = declare(&mut module, alloc, "main", Linkage::Export)?;
-    define(&mut module, main, b"\xc3")?;
-    match define(&mut module, main, b"\x90") {
-        Ok(()) => return Err(Fail::from("a second definition was taken")),
-        Err(error) => prints(
-            &rt,
-            alloc,
-            &error,
-            "Duplicate definition of identifier: main",
-        )?,
-    }
-    let product = module.finish()?;
-    match product.object().sections().first() {
-        Some(section) => assert!(rt; section.contents() == b"\xc3".as_slice()),
-        None => return Err(Fail::from("no section")),
-    }
-    Ok(())
-}
-
-#[test]
-fn an_import_can_not_be_defined(rt: HostRuntime) -> Result<(), Fail> {
-    let alloc = rt.alloc();
-    let mut module = opened(alloc)?;
-    let printf = declare(&mut module, alloc, "printf", Linkage::Import)?;
-    match define(&mut module, printf, b"\xc3") {
-        Ok(()) => Err(Fail::from("an import was defined")),
-        Err(error) => prints(
-            &rt,
-            alloc,
-            &error,
-            "Invalid to define identifier declared as an import: printf",
-        ),
-    }
-}
-
-#[test]
-fn imports_that_nothing_uses_have_undefined_symbols(rt: HostRuntime) -> Result<(), Fail> {
-    let alloc = rt.alloc();
-    let mut module = opened(alloc)?;
-    declare(&mut module, alloc, "printf", Linkage::Import)?;
-    let environ = declare_data(&mut module, "environ", false)?;
-    let errno = declare_data(&mut module, "errno", true)?;
-    assert_eq!(rt; environ.as_u32(), 0);
-    assert_eq!(rt; errno.as_u32(), 1);
-    let product = module.finish()?;
-    assert_eq!(rt; product.data_objects().len(), 2);
-    let symbols = product.object().symbols();
-    let cases = [
-        (b"printf".as_slice(), SymbolKind::Text),
-        (b"environ".as_slice(), SymbolKind::Data),
-        (b"errno".as_slice(), SymbolKind::Tls),
-    ];
-    for (symbol, (name, kind)) in symbols.iter().skip(1).zip(&cases) {
-        assert!(rt; symbol.name.as_slice() == *name);
-        assert!(rt; symbol.kind == *kind);
-        assert!(rt; matches!(symbol.section, SymbolSection::Undefined));
-    }
-    Ok(())
-}
-
-#[test]
-fn what_lacks_its_definition_is_named_functions_first(rt: HostRuntime) -> Result<(), Fail> {
-    let alloc = rt.alloc();
-    let mut module = opened(alloc)?;
-    let data = declare_unnamed_data(&mut module)?;
-    assert_eq!(rt; data, DataId::from_u32(0));
-    let signature = module.make_signature(alloc);
-    let function = module.declare_anonymous_function(&signature)?;
-    define(&mut module, function, b"\xc3")?;
-    match module.finish() {
-        Ok(_) => Err(Fail::from("a missing definition was taken")),
-        Err(error) => prints(
-            &rt,
-            alloc,
-            &error,
-            "Missing definition of identifier: .Ldata0",
-        ),
-    }
-}
-
-#[test]
-fn a_zero_byte_of_the_files_name_has_its_place(rt: HostRuntime) -> Result<(), Fail> {
-    let alloc = rt.alloc();
-    match begun(alloc, b"a.\0o", Architecture::X86_64) {
-        Ok(_) => Err(Fail::from("a zero byte was taken")),
-        Err(error) => prints(&rt, alloc, &error, "Backend error: zero byte at 2"),
-    }
 }
 
 #[test]
@@ -247,6 +144,18 @@ fn apply_names_the_first_refused_command(rt: HostRuntime) -> Result<(), Fail> {
     }
     let f = FuncOrDataId::Func(FuncId::from_u32(0));
     assert_eq!(rt; module.get_name("f"), Some(f));
+    Ok(())
+}
+
+#[test]
+fn apply_makes_all_calls(rt: HostRuntime) -> Result<(), Fail> {
+    let alloc = rt.alloc();
+    let mut module = opened(alloc)?;
+    let first = declaration(alloc, "f")?;
+    let second = declaration(alloc, "g")?;
+    assert!(rt; apply_two(&mut module, first, second).is_ok());
+    let g = FuncOrDataId::Func(FuncId::from_u32(1));
+    assert_eq!(rt; module.get_name("g"), Some(g));
     Ok(())
 }
 
@@ -316,18 +225,6 @@ fn imports_into_data_have_the_targets_of_their_identifiers(rt: HostRuntime) -> R
     Ok(())
 }
 
-#[test]
-fn apply_makes_all_calls(rt: HostRuntime) -> Result<(), Fail> {
-    let alloc = rt.alloc();
-    let mut module = opened(alloc)?;
-    let first = declaration(alloc, "f")?;
-    let second = declaration(alloc, "g")?;
-    assert!(rt; apply_two(&mut module, first, second).is_ok());
-    let g = FuncOrDataId::Func(FuncId::from_u32(1));
-    assert_eq!(rt; module.get_name("g"), Some(g));
-    Ok(())
-}
-
 // Declares the function `g` through any module.
 fn number_of_g<M: Module>(module: &mut M, alloc: Global) -> ModuleResult<u32>
     requires { length (M.state module.old).functions < 100 }
@@ -363,5 +260,11 @@ fn a_part_keeps_what_was_set(rt: HostRuntime) -> Result<(), Fail> {
     assert!(rt; part.function_sections() && part.data_sections());
     assert_eq!(rt; part.isa().triple().architecture, Architecture::Aarch64);
     assert_eq!(rt; part.commands().len(), 0);
+    Ok(())
+}
+
+#[test]
+fn the_version_is_that_of_the_carried_crate(rt: HostRuntime) -> Result<(), Fail> {
+    assert_eq!(rt; VERSION, "0.137.1");
     Ok(())
 }
