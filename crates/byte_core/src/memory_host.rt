@@ -99,10 +99,10 @@ impl<'a> MemHost<'a> {
 }
 
 impl Host for MemHost<'_> {
-    ghost use Rattle.std.specs.Prelude.{◌≡◌, ◌+◌, ◌<◌, ◌≤◌, ◌↔◌, ◌⊎◌, min, length, take, IfOk, OnErr, IsErr, Contains, unwrap_or};
-    ghost use Rattle.byte_core.specs.Count.{Rose, last_count};
+    ghost use Rattle.std.specs.Prelude.{◌≡◌, ◌<◌, ◌≤◌, ◌↔◌, ◌⊎◌, min, length, take, IfOk, IfSome, OnErr, IsErr, Contains};
+    ghost use Rattle.byte_core.specs.Count.{Rose};
     ghost use Rattle.byte_core.specs.Outside.{Outside, TakesInput, KeepsInput, ChangesInput, ChangesOutput, ChangesErrors, Appends, IsAtEnd};
-    ghost use Rattle.byte_core.specs.MemoryHost.{MemHostData};
+    ghost use Rattle.byte_core.specs.MemoryHost.{MemHostData, after_read, after_failed_read, after_write, after_failed_write, after_err_write, after_failed_err_write};
 
     ghost outside = { λ h. h.outside };
 
@@ -114,8 +114,9 @@ impl Host for MemHost<'_> {
         ensures kept { OnErr result (KeepsInput self.old.outside self.new.outside) }
         ensures others { ChangesInput self.old.outside self.new.outside }
         ensures exact { IsErr result ↔ Contains self.old.failing_reads self.old.reads }
-        ensures counted { self.new.reads ≡ min (self.old.reads + 1) last_count }
-        ensures room { self.new.room ≡ self.old.room }
+        ensures amount { IfOk result (λ n. IfSome self.old.outside.input (λ left. n ≡ min (length buf.new) (length left))) }
+        ensures ok { IfOk result (λ n. self.new ≡ after_read self.old n) }
+        ensures err { OnErr result (self.new ≡ after_failed_read self.old) }
     {
         let call = self.reads;
         self.reads = self.reads.saturating_add(1);
@@ -140,8 +141,8 @@ impl Host for MemHost<'_> {
         ensures others { ChangesOutput self.old.outside self.new.outside }
         ensures amount { IfOk result (λ n. n ≡ min (length buf.now) self.old.room) }
         ensures exact { IsErr result ↔ Contains self.old.failing_writes self.old.writes ⊎ ((0 < length buf.now) × (self.old.room ≡ 0)) }
-        ensures counted { self.new.writes ≡ min (self.old.writes + 1) last_count }
-        ensures room { IfOk result (λ n. self.new.room + n ≡ self.old.room) }
+        ensures ok { IfOk result (λ n. self.new ≡ after_write self.old buf.now n) }
+        ensures err { OnErr result (self.new ≡ after_failed_write self.old) }
     {
         let call = self.writes;
         self.writes = self.writes.saturating_add(1);
@@ -166,8 +167,8 @@ impl Host for MemHost<'_> {
         ensures others { ChangesErrors self.old.outside self.new.outside }
         ensures amount { IfOk result (λ n. n ≡ min (length buf.now) self.old.room) }
         ensures exact { IsErr result ↔ Contains self.old.failing_err_writes self.old.err_writes ⊎ ((0 < length buf.now) × (self.old.room ≡ 0)) }
-        ensures counted { self.new.err_writes ≡ min (self.old.err_writes + 1) last_count }
-        ensures room { IfOk result (λ n. self.new.room + n ≡ self.old.room) }
+        ensures ok { IfOk result (λ n. self.new ≡ after_err_write self.old buf.now n) }
+        ensures err { OnErr result (self.new ≡ after_failed_err_write self.old) }
     {
         let call = self.err_writes;
         self.err_writes = self.err_writes.saturating_add(1);
