@@ -91,10 +91,58 @@ pub struct MachReloc {
     pub addend: i64,
 }
 
-/// A place in the source of a function.
+/// A place in the source of a function, by a number that the front end chooses. A contract sees that number.
 #[derive(Clone, Copy, Debug, PartialEq, Eq)]
-pub struct SourceLoc(pub u32);
+pub struct SourceLoc(u32);
 
-/// Why an instruction traps.
+impl Model for SourceLoc {
+    ghost Value = { ℕ };
+
+    ghost view = { λ place. place.0 };
+
+    ghost inverse = { λ n. record { 0 = n } };
+}
+
+impl SourceLoc {
+    /// The place of this number.
+    pub fn new(bits: u32) -> Self
+        ensures { result ≡ bits }
+    {
+        SourceLoc(bits)
+    }
+
+    /// The place's number.
+    pub fn bits(self) -> u32
+        ensures { result ≡ self }
+    {
+        self.0
+    }
+}
+
+/// Why an instruction traps, by its code. A contract sees the code.
 #[derive(Clone, Copy, Debug, PartialEq, Eq)]
-pub struct TrapCode(pub u8);
+pub struct TrapCode(u8);
+
+impl Model for TrapCode {
+    ghost Value = { ℕ };
+
+    ghost view = { λ code. code.0 };
+
+    ghost inverse = { λ n. record { 0 = n } };
+}
+
+impl TrapCode {
+    /// The reason of this code.
+    pub fn from_raw(code: u8) -> Self
+        ensures { result ≡ code }
+    {
+        TrapCode(code)
+    }
+
+    /// The reason's code.
+    pub fn as_raw(self) -> u8
+        ensures { result ≡ self }
+    {
+        self.0
+    }
+}

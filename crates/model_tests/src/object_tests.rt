@@ -1,8 +1,10 @@
-use crate::{
+//! Objects in memory, through public items alone.
+
+use ir_core::{Architecture, BinaryFormat};
+use object_core::{
     Object, SectionId, StandardSection, Symbol, SymbolId, SymbolKind, SymbolName, SymbolScope,
     SymbolSection,
 };
-use ir_core::{Architecture, BinaryFormat};
 use std::alloc::{AllocError, Global};
 use std::process::Abort;
 use std::test::Fail;

@@ -1,8 +1,10 @@
-use crate::{
+//! Values of the code generator, through public items alone.
+
+use ir_core::{
     AbiParam, Architecture, ArgumentExtension, ArgumentPurpose, BinaryFormat, CallConv,
     Environment, ExtFuncData, ExternalName, FuncRef, Function, GlobalValue, GlobalValueData,
-    KnownSymbol, LibCall, MachLabel, Reloc, SigRef, Signature, System, TargetIsa, Triple,
-    UserExternalName, ValueType,
+    KnownSymbol, LibCall, MachLabel, Reloc, SigRef, Signature, SourceLoc, System, TargetIsa,
+    TrapCode, Triple, UserExternalName, ValueType,
 };
 use std::test::Fail;
 
@@ -157,4 +159,12 @@ fn imports_are_numbered_from_zero(rt: HostRuntime) -> Result<(), Fail> {
     assert_eq!(rt; function.global_values().len(), 1);
     assert_eq!(rt; MachLabel::from_offset(100).as_offset(), 100);
     Ok(())
+}
+
+#[test]
+fn numbers_of_places_and_traps_are_told_back(rt: HostRuntime) {
+    assert_eq!(rt; SourceLoc::new(4_000_000_000).bits(), 4_000_000_000);
+    assert!(rt; SourceLoc::new(1) != SourceLoc::new(2));
+    assert_eq!(rt; TrapCode::from_raw(255).as_raw(), 255);
+    assert!(rt; TrapCode::from_raw(1) == TrapCode::from_raw(1));
 }

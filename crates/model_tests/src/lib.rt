@@ -1,0 +1,7 @@
+//! Tests of the model: the values of the code generator, declarations and objects in memory.
+#![tactic(auto)]
+
+#[cfg(test)]
+mod ir_tests;
+#[cfg(test)]
+mod object_tests;
