@@ -2,6 +2,10 @@
 #![tactic(auto)]
 
 #[cfg(test)]
+mod declaration_tests;
+#[cfg(test)]
 mod ir_tests;
+#[cfg(test)]
+mod module_text_tests;
 #[cfg(test)]
 mod object_tests;

@@ -10,7 +10,8 @@ pub(crate) fn is_file(output: &[u8], lines: &[&str]) -> bool {
         }
         place += line.len();
     }
-    output[place..] == *b"\n".as_slice()
+    let rest = &output[place..];
+    rest == b"\n".as_slice()
 }
 
 /// Whether an output is a front of these lines, joined.
