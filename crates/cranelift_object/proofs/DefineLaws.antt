@@ -1,5 +1,5 @@
 -- What one definition of a module adds to its object.
-use Rattle.std.proofs.Common.{◌≡◌, ◌≢◌, ℕ, zero, suc, ◌+◌, ◌||◌, ◌<◌, ◌≤◌, ◌^◌, ◌++◌, ◌∷◌, length-take, List, [], Bool, true, false, cond, max, length, map, take, get_or, Option, Some, None, refl, ap, sym, ◌∙◌, arith, inl, inr, append_assoc}
+use Rattle.std.proofs.Common.{◌≡◌, ◌≢◌, ℕ, zero, suc, ◌+◌, ◌||◌, ◌<◌, ◌≤◌, ◌^◌, ◌++◌, ◌∷◌, length-take, List, [], Bool, true, false, cond, max, length, map, take, get_or, Option, Some, None, refl, ap, sym, ◌∙◌, subst, arith, inl, inr, append_assoc}
 use Rattle.std.proofs.lemmas.List.{append-nil, map-append, take_more, take_all, length-map}
 use Rattle.std.proofs.lemmas.List.Elements.{All-nil, All-push, All-take, All-map, All-weaker, All-head, All-tail, All-cons}
 use Rattle.std.proofs.lemmas.List.Sums.{sum_by-le}
@@ -15,11 +15,13 @@ use Rattle.ir_core.proofs.MomentLaws.{by_end}
 use Rattle.ir_core.specs.Target.{symbol_alignment}
 use Rattle.ir_core.specs.declared.target.Architecture.{Architecture}
 use Rattle.ir_core.specs.declared.target.Architecture.TheVariants.{X86_32, X86_64, Arm, Aarch64, Riscv64, S390x}
+use Rattle.ir_core.specs.declared.target.BinaryFormat.{BinaryFormat}
+use Rattle.ir_core.specs.declared.target.BinaryFormat.TheVariants.{Elf}
 use Rattle.object_core.specs.Standard.{is_zero_fill}
 use Rattle.object_core.specs.declared.symbol.Symbol.{Symbol}
 use Rattle.object_core.specs.declared.kinds.SymbolSection.{SymbolSection}
 use Rattle.object_core.specs.Object.{SectionData, ObjectData}
-use Rattle.object_core.specs.Appending.{with_symbol, file_symbol, with_symbol_data, IsUndefined, HasBytes}
+use Rattle.object_core.specs.Appending.{with_symbol, file_symbol, with_symbol_data, IsUndefined, HasBytes, is_unstored}
 use Rattle.cranelift_module.specs.declared.identifiers.FuncOrDataId.{FuncOrDataId}
 use Rattle.cranelift_module.specs.declared.identifiers.FuncOrDataId.TheVariants.{Func, Data}
 use Rattle.cranelift_module.specs.Call.{bytes}
@@ -41,7 +43,7 @@ use Rattle.cranelift_object.specs.Product.{begun_object, with_function_section, 
 use Rattle.cranelift_object.proofs.OpenLaws.{opened_own, opened_shared, number_own, number_text}
 use Rattle.cranelift_object.specs.Marking.{with_symbols, functions_in, data_in, marks_of_functions, marks_of_objects}
 use Rattle.cranelift_object.proofs.CreationLaws.{function_stands, place_is, places_apart, functions_in-append, data_in-append, functions_numbered, data_numbered, function_within, data_within}
-use Rattle.cranelift_object.proofs.ObjectLaws.{IsPlain, partial-end, partial_whole, section_there, section_at, All-slice_get}
+use Rattle.cranelift_object.proofs.ObjectLaws.{IsPlain, partial-end, partial_whole, opened_format, section_there, section_at, All-slice_get}
 
 -- -- definitions of a module
 
@@ -203,7 +205,10 @@ opened_bytes o marks j d h at =
     let there = section_there o.settings o.state ds d in
     let kind = All-slice_get (λ (c : Class). is_zero_fill c.kind ≡ false) classes n there.0 (text_kinds o marks j d h at) there.1 in
     let section = section_at o.settings o.state (placed_of o.settings o.state ds) classes 0 n n there.0 there.1 (omega arith) in
-    ap (option_map (λ (x : SectionData). is_zero_fill x.kind)) section ∙ ap Some kind
+    let sections : List SectionData = (opened o.settings o.state ds d).sections in
+    let bytes : option_map (is_unstored Elf) (slice_get sections n) ≡ Some false = ap (option_map (λ (x : SectionData). is_zero_fill x.kind)) section ∙ ap Some kind in
+    let elf : (opened o.settings o.state ds d).format ≡ Elf = opened_format o.settings o.state ds d ∙ h.begun.format in
+    subst (λ (format : BinaryFormat). option_map (is_unstored format) (slice_get sections n) ≡ Some false) (sym elf) bytes
 
 small_room : (o : OpenModule) (count : ℕ) (d : Definition) → IsBody count d → room_of d + align_of o.state d ≤ 9223372036854775812
 small_room o count d body =

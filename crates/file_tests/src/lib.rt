@@ -1,5 +1,7 @@
-//! Tests of the crates that make files: modules over objects, and the writers.
+//! Tests of written files: an object's bytes, and modules over objects.
 #![tactic(auto)]
 
+#[cfg(test)]
+mod elf_tests;
 #[cfg(test)]
 mod module_tests;

@@ -1,17 +1,18 @@
 -- What each call of an object appends.
-use Rattle.std.specs.Prelude.{◌≡◌, ℕ, zero, suc, ◌+◌, ◌-◌, ◌<◌, ◌≤◌, max, Bool, true, false, List, [], ◌∷◌, ◌++◌, length, replicate, slice_get, Option, Some, None, option_map, unwrap_or, sum_by, if◌then◌else◌, IsTrue}
+use Rattle.std.specs.Prelude.{◌≡◌, ℕ, zero, suc, ◌+◌, ◌-◌, ◌<◌, ◌≤◌, max, Bool, true, false, List, [], ◌∷◌, ◌++◌, length, replicate, slice_get, slice_set, Option, Some, None, option_map, unwrap_or, sum_by, if◌then◌else◌}
 use Rattle.std.specs.List.{position_from, All}
 use Rattle.std.specs.Int.{next_multiple_of, is_power_of_two}
 use Rattle.ir_core.specs.declared.target.Architecture.{Architecture}
 use Rattle.ir_core.specs.declared.target.BinaryFormat.{BinaryFormat}
 use Rattle.object_core.specs.declared.kinds.StandardSection.{StandardSection}
+use Rattle.object_core.specs.declared.kinds.SectionKind.{SectionKind}
+use Rattle.object_core.specs.declared.kinds.MachOBuildVersion.{MachOBuildVersion}
 use Rattle.object_core.specs.declared.kinds.SymbolKind.TheVariants as kind
 use Rattle.object_core.specs.declared.kinds.SymbolScope.TheVariants as scope
-use Rattle.object_core.specs.declared.kinds.SymbolSection.{SymbolSection}
 use Rattle.object_core.specs.declared.kinds.SymbolSection.TheVariants.{Undefined, Absolute, Section}
 use Rattle.object_core.specs.declared.symbol.Symbol.{Symbol}
 use Rattle.object_core.specs.Object.{SectionData, ObjectData}
-use Rattle.object_core.specs.Standard.{is_same_shared, is_zero_fill, empty_standard, empty_subsection}
+use Rattle.object_core.specs.Standard.{is_same_shared, takes_no_bytes, empty_section, empty_standard, empty_subsection}
 
 -- the list with its element of this number changed, where it has one
 abbrev pub changed_at : {A : Type 0} → ℕ → (A → A) → List A → List A
@@ -23,10 +24,18 @@ changed_at (suc k) change (x ∷ xs) = x ∷ changed_at k change xs
 abbrev pub empty_object : BinaryFormat → Architecture → ℕ → ObjectData
 empty_object format architecture e_flags = record { format = format; architecture = architecture; e_flags = e_flags; build_version = None; sections = []; symbols = []; content_sum = 0 }
 
+-- an object that is built for this system, from this version on
+abbrev pub with_build_version : ObjectData → MachOBuildVersion → ObjectData
+with_build_version o version = record o { build_version = Some version }
+
 -- -- symbols
 
 abbrev pub with_symbol : ObjectData → Symbol → ObjectData
 with_symbol o s = record o { symbols = o.symbols ++ s ∷ [] }
+
+-- an object whose symbol of this number is another
+abbrev pub with_symbol_at : ObjectData → ℕ → Symbol → ObjectData
+with_symbol_at o k s = record o { symbols = slice_set o.symbols k s }
 
 -- the symbol that names the source file
 abbrev pub file_symbol : List ℕ → Symbol
@@ -49,6 +58,12 @@ with_standard_section o standard = with_standard o standard (standard_at o.secti
 -- a section beside a standard one
 abbrev pub with_subsection : ObjectData → StandardSection → ObjectData
 with_subsection o standard = record o { sections = o.sections ++ empty_subsection standard ∷ [] }
+
+-- -- sections of any name
+
+-- an object with one more section, in which nothing is yet
+abbrev pub with_section : ObjectData → List ℕ → List ℕ → SectionKind → ℕ → ObjectData
+with_section o segment name kind macho_flags = record o { sections = o.sections ++ empty_section segment name kind macho_flags None ∷ [] }
 
 -- -- contents
 
@@ -86,20 +101,25 @@ with_symbol_data o symbol section bytes align =
 abbrev pub IsUndefined : ObjectData → ℕ → Type 0
 IsUndefined o symbol = option_map (λ (s : Symbol). s.section) (slice_get o.symbols symbol) ≡ Some Undefined
 
+-- a section of an object of this format takes no bytes of its file
+abbrev pub is_unstored : BinaryFormat → SectionData → Bool
+is_unstored format s = takes_no_bytes format s.kind s.macho_flags
+
 -- the object has such a section, and its contents are bytes
 abbrev pub HasBytes : ObjectData → ℕ → Type 0
-HasBytes o section = option_map (λ s. is_zero_fill s.kind) (slice_get o.sections section) ≡ Some false
+HasBytes o section = option_map (is_unstored o.format) (slice_get o.sections section) ≡ Some false
 
 -- -- what holds of every object
 
--- the contents of a section are its bytes, or none where it is zero-fill, and its alignment is a power of two
-pub record IsSection (s : SectionData) : Type 0 where
-  pub contents : length s.contents ≡ (if is_zero_fill s.kind then 0 else s.size)
+-- the contents of a section are its bytes, or none where it takes none of its file, and its alignment is a power of two
+pub record IsSection (format : BinaryFormat) (s : SectionData) : Type 0 where
+  pub contents : length s.contents ≡ (if is_unstored format s then 0 else s.size)
   pub align : 0 < s.align
   pub power : is_power_of_two s.align ≡ true
 
--- the sizes and alignments of the sections are among the bytes that were asked for; an empty section has alignment 1
-pub record AreSections (sections : List SectionData) (sum : ℕ) : Type 0 where
-  pub each : All IsSection sections
+-- The sizes and alignments of the sections are among the bytes that were asked for; an empty section has alignment 1. It speaks of
+-- sections alone, so that whatever a caller writes into a symbol leaves it true.
+pub record AreSections (format : BinaryFormat) (sections : List SectionData) (sum : ℕ) : Type 0 where
+  pub each : All (IsSection format) sections
   pub sizes : sum_by (λ (s : SectionData). s.size) sections ≤ sum
   pub aligns : sum_by (λ (s : SectionData). s.align) sections ≤ sum + length sections

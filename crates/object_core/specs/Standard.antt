@@ -1,5 +1,8 @@
 -- The standard sections of ELF. The choice of names and kinds is this project's own.
 use Rattle.std.specs.Prelude.{ℕ, ◌==◌, Bool, true, false, List, [], ◌++◌, codes, Option, Some, None}
+use Rattle.ir_core.specs.declared.target.BinaryFormat.{BinaryFormat}
+use Rattle.ir_core.specs.declared.target.BinaryFormat.TheVariants.{Macho}
+use Rattle.ir_core.specs.MachO.{is_zero_fill_type}
 use Rattle.object_core.specs.declared.kinds.StandardSection.{StandardSection}
 use Rattle.object_core.specs.declared.kinds.StandardSection.TheVariants.{Text, Data, ReadOnlyData, ReadOnlyDataWithRel, UninitializedData, Tls, UninitializedTls}
 use Rattle.object_core.specs.declared.kinds.SectionKind.{SectionKind}
@@ -44,6 +47,11 @@ abbrev pub is_zero_fill : SectionKind → Bool
 is_zero_fill kind.UninitializedData = true
 is_zero_fill kind.UninitializedTls = true
 is_zero_fill _ = false
+
+-- a section of this kind and these flags takes no bytes of a file: by its kind, but in Mach-O by the type in its flags
+abbrev pub takes_no_bytes : BinaryFormat → SectionKind → ℕ → Bool
+takes_no_bytes Macho kind flags = is_zero_fill_type flags
+takes_no_bytes _ kind flags = is_zero_fill kind
 
 -- a section in which nothing is yet
 abbrev pub empty_section : List ℕ → List ℕ → SectionKind → ℕ → Option StandardSection → SectionData

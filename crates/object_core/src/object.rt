@@ -1,16 +1,19 @@
 //! Objects: sections and symbols in order of creation.
 
-ghost use Rattle.std.specs.Prelude.{◌≡◌, ◌<◌, ◌^◌, ℕ, List, true, length, slice_get, Some, None, IfOk, OnErr, OnOk, unwrap_or};
+ghost use Rattle.std.specs.Prelude.{◌≡◌, ◌+◌, ◌∷◌, ◌++◌, [], ◌<◌, ◌^◌, true, length, slice_get, Some, IfOk, OnErr, OnOk, unwrap_or};
 ghost use Rattle.std.specs.List.{position_from};
 ghost use Rattle.std.specs.Str.{bytes_eq};
 ghost use Rattle.std.specs.Int.{is_power_of_two};
+ghost use Rattle.std.specs.Borrow.{Lends, sem};
 ghost use Rattle.ir_core.specs.declared.target.BinaryFormat.TheVariants.{Elf};
+ghost use Rattle.object_core.specs.contracts.object.Object.{the_row};
+ghost use Rattle.object_core.specs.contracts.symbol.Symbol.{the_row as symbol_row};
 ghost use Rattle.object_core.specs.Standard.{is_same_shared};
-ghost use Rattle.object_core.specs.Appending.{empty_object, with_symbol, file_symbol, standard_at, with_standard_section, with_subsection, next_offset, with_symbol_data, IsUndefined, HasBytes, AreSections};
+ghost use Rattle.object_core.specs.Appending.{empty_object, with_build_version, with_symbol, with_symbol_at, file_symbol, standard_at, with_standard_section, with_subsection, with_section, next_offset, with_symbol_data, IsUndefined, HasBytes, AreSections};
 
 use crate::{
-    Section, SectionId, StandardSection, Symbol, SymbolId, SymbolKind, SymbolName, SymbolScope,
-    SymbolSection,
+    MachOBuildVersion, Section, SectionId, SectionKind, StandardSection, Symbol, SymbolId,
+    SymbolKind, SymbolName, SymbolScope, SymbolSection,
 };
 use ir_core::{Architecture, BinaryFormat};
 use std::alloc::{AllocError, Global};
@@ -23,22 +26,22 @@ pub struct Object {
     format: BinaryFormat,
     architecture: Architecture,
     e_flags: u32,
+    build_version: Option<MachOBuildVersion>,
     sections: Vec<Section>,
     symbols: Vec<Symbol>,
     content_sum: u128,
 }
 
 impl Model for Object {
-    ghost use Rattle.std.specs.Prelude.{None};
     ghost use Rattle.object_core.specs.Object.{ObjectData};
 
     ghost Value = { ObjectData };
 
-    ghost view = { λ o. record { format = o.format; architecture = o.architecture; e_flags = o.e_flags; build_version = None; sections = o.sections.items; symbols = o.symbols.items; content_sum = o.content_sum } };
+    ghost view = { λ o. record { format = o.format; architecture = o.architecture; e_flags = o.e_flags; build_version = o.build_version; sections = o.sections.items; symbols = o.symbols.items; content_sum = o.content_sum } };
 
     ghost use Rattle.object_core.specs.Appending.{AreSections};
 
-    ghost invariant = { λ o. AreSections o.sections.items o.content_sum };
+    ghost invariant = { λ o. AreSections o.format o.sections.items o.content_sum };
 }
 
 impl Object {
@@ -56,34 +59,52 @@ impl Object {
             format,
             architecture,
             e_flags,
+            build_version: None,
             sections: Vec::new(alloc),
             symbols: Vec::new(alloc),
             content_sum: 0,
         }
     }
 
+    /// The format that the object was made for.
     pub fn format(&self) -> BinaryFormat
         ensures { result ≡ (self.now).format }
     {
         self.format
     }
 
+    /// The processor that the object was made for.
     pub fn architecture(&self) -> Architecture
         ensures { result ≡ (self.now).architecture }
     {
         self.architecture
     }
 
+    /// The flags of an ELF header that the object was made with.
     pub fn e_flags(&self) -> u32
         ensures { result ≡ (self.now).e_flags }
     {
         self.e_flags
     }
 
+    /// The system version that was set last, none before that.
+    pub fn macho_build_version(&self) -> Option<MachOBuildVersion>
+        ensures { result ≡ (self.now).build_version }
+    {
+        self.build_version
+    }
+
+    /// Sets the system version that a Mach-O file tells, in place of one that was set before.
+    pub fn set_macho_build_version(&mut self, version: MachOBuildVersion)
+        ensures { self.new ≡ with_build_version self.old version }
+    {
+        self.build_version = Some(version);
+    }
+
     /// The sections in order of creation.
     pub fn sections(&self) -> &[Section]
         ensures value { result.now ≡ (self.now).sections }
-        ensures sound { AreSections (self.now).sections (self.now).content_sum }
+        ensures sound { AreSections (self.now).format (self.now).sections (self.now).content_sum }
         ensures bound { length (self.now).sections < 2 ^ 63 }
     {
         &self.sections
@@ -97,11 +118,22 @@ impl Object {
         &self.symbols
     }
 
+    /// The symbol of this number.
     pub fn symbol(&self, id: SymbolId) -> &Symbol
         requires { id < length (self.now).symbols }
         ensures { slice_get (self.now).symbols id ≡ Some result.now }
     {
         &self.symbols[id.as_number()]
+    }
+
+    /// The symbol of this number, to write. Whatever is written into it is an object's symbol; a writer asks
+    /// more of it than an object does.
+    pub fn symbol_mut(&mut self, id: SymbolId) -> &mut Symbol
+        requires { id < length (self.old).symbols }
+        ensures* writes_back { sem 𝓛 (Lends the_row symbol_row self.entry result (with_symbol_at self.old id)) }
+        ensures value { slice_get (self.old).symbols id ≡ Some result.now }
+    {
+        &mut self.symbols[id.as_number()]
     }
 
     /// The sizes and alignments of all contents that were added, in bytes.
@@ -151,6 +183,23 @@ impl Object {
         Ok(id)
     }
 
+    /// Appends a section of these names, in which nothing is yet. The segment and the flags are those of a Mach-O
+    /// section; ELF has neither.
+    pub fn add_section(
+        &mut self,
+        segment: &[u8],
+        name: &[u8],
+        kind: SectionKind,
+        macho_flags: u32,
+    ) -> Result<SectionId, AllocError>
+        ensures id { IfOk result (λ id. id ≡ length (self.old).sections) }
+        ensures ok { OnOk result (self.new ≡ with_section self.old segment.now name.now kind macho_flags) }
+        ensures err { OnErr result (self.new ≡ self.old) }
+    {
+        let section = Section::named(self.alloc, segment, name, kind, macho_flags)?;
+        self.push_section(section)
+    }
+
     /// The section of a standard section, which is made at its first use.
     pub fn section_id(&mut self, standard: StandardSection) -> Result<SectionId, AllocError>
         requires { (self.old).format ≡ Elf }
@@ -161,10 +210,8 @@ impl Object {
         if let Some(number) = place_of(&self.sections, standard) {
             return Ok(SectionId::from_number(number));
         }
-        let id = SectionId::from_number(self.sections.len());
-        self.sections
-            .push(Section::standard(self.alloc, standard)?)?;
-        Ok(id)
+        let section = Section::standard(self.alloc, standard)?;
+        self.push_section(section)
     }
 
     /// A new section beside a standard one, under its name and `.subsection`.
@@ -174,15 +221,27 @@ impl Object {
         ensures ok { OnOk result (self.new ≡ with_subsection self.old standard) }
         ensures err { OnErr result (self.new ≡ self.old) }
     {
+        let section = Section::subsection(self.alloc, standard)?;
+        self.push_section(section)
+    }
+
+    // Appends a section in which nothing is yet.
+    fn push_section(&mut self, section: Section) -> Result<SectionId, AllocError>
+        requires contents { section.contents ≡ [] }
+        requires size { section.size ≡ 0 }
+        requires align { section.align ≡ 1 }
+        ensures id { IfOk result (λ id. id ≡ length (self.old).sections) }
+        ensures ok { OnOk result (self.new ≡ record self.old { sections = (self.old).sections ++ section ∷ [] }) }
+        ensures err { OnErr result (self.new ≡ self.old) }
+    {
         let id = SectionId::from_number(self.sections.len());
-        self.sections
-            .push(Section::subsection(self.alloc, standard)?)?;
+        self.sections.push(section)?;
         Ok(id)
     }
 
-    #[tactic(auto, using(crate::proofs::Sections::mapped_within, crate::proofs::Sections::mapped_is, crate::proofs::Sections::changed_set, crate::proofs::Sections::offset_is, crate::proofs::Sections::contents_are, crate::proofs::Sections::more_contents, crate::proofs::Sections::unchanged_set))]
     /// Appends contents to a section, behind zeros up to their alignment, and defines the symbol there. The answer is
     /// their offset in the section, in bytes.
+    #[tactic(auto, using(crate::proofs::Sections::mapped_within, crate::proofs::Sections::mapped_is, crate::proofs::Sections::changed_set, crate::proofs::Sections::offset_is, crate::proofs::Sections::contents_are, crate::proofs::Sections::more_contents, crate::proofs::Sections::unchanged_set))]
     pub fn add_symbol_data(
         &mut self,
         symbol: SymbolId,
@@ -200,13 +259,17 @@ impl Object {
         ensures err { OnErr result (self.new ≡ self.old) }
     {
         let offset = self.sections[section.as_number()].append(contents, align)?;
-        let defined = &mut self.symbols[symbol.as_number()];
-        defined.value = offset;
-        defined.size = contents.len() as u64;
-        defined.section = SymbolSection::Section(section);
-        self.content_sum += contents.len() as u128 + u128::from(align);
+        self.symbols[symbol.as_number()].define(section, offset, contents.len() as u64);
+        self.content_sum += amount_of(contents, align);
         Ok(offset)
     }
+}
+
+// What contents add to the sum that limits are judged by, in bytes.
+fn amount_of(contents: &[u8], align: u64) -> u128
+    ensures { result ≡ length contents.now + align }
+{
+    contents.len() as u128 + u128::from(align)
 }
 
 fn place_named(symbols: &[Symbol], name: &[u8]) -> Option<usize>

@@ -1,7 +1,7 @@
 //! Sections of an object.
 
-ghost use Rattle.std.specs.Prelude.{◌≡◌, ◌+◌, ◌<◌, ◌^◌, ℕ, List, [], true, length, IfOk, OnErr, OnOk, IsTrue};
-ghost use Rattle.std.specs.Int.{is_power_of_two, next_multiple_of};
+ghost use Rattle.std.specs.Prelude.{◌≡◌, ◌<◌, ◌^◌, true, length, None, IfOk, OnErr, OnOk};
+ghost use Rattle.std.specs.Int.{is_power_of_two};
 ghost use Rattle.object_core.specs.Standard.{empty_section, empty_standard, empty_subsection};
 ghost use Rattle.object_core.specs.Appending.{with_contents, offset_in};
 
@@ -41,12 +41,14 @@ impl Section {
         &self.segment
     }
 
+    /// Its name, in ELF and in Mach-O.
     pub fn name(&self) -> &[u8]
         ensures { result.now ≡ (self.now).name }
     {
         &self.name
     }
 
+    /// What it holds.
     pub fn kind(&self) -> SectionKind
         ensures { result ≡ (self.now).kind }
     {
@@ -81,13 +83,14 @@ impl Section {
         self.size
     }
 
-    /// Its bytes, none in a zero-fill section.
+    /// Its bytes, none where it takes none of the file.
     pub fn contents(&self) -> &[u8]
         ensures { result.now ≡ (self.now).contents }
     {
         &self.contents
     }
 
+    /// Its relocations, in the order in which they were added.
     pub fn relocations(&self) -> &[Relocation]
         ensures { result.now ≡ (self.now).relocations }
     {
@@ -106,7 +109,7 @@ impl Section {
         ensures { IfOk result (λ s. s ≡ empty_standard standard) }
     {
         let name = standard.name().to_vec(alloc)?;
-        Ok(empty_section(alloc, name, standard.kind(), Some(standard)))
+        Ok(empty_section(Vec::new(alloc), name, standard.kind(), 0, Some(standard)))
     }
 
     /// A section beside a standard one, in which nothing is yet.
@@ -118,7 +121,22 @@ impl Section {
     {
         let mut name = standard.name().to_vec(alloc)?;
         name.extend_from_slice(b".subsection")?;
-        Ok(empty_section(alloc, name, standard.kind(), None))
+        Ok(empty_section(Vec::new(alloc), name, standard.kind(), 0, None))
+    }
+
+    /// A section of these names, in which nothing is yet.
+    pub(crate) fn named(
+        alloc: Global,
+        segment: &[u8],
+        name: &[u8],
+        kind: SectionKind,
+        macho_flags: u32,
+    ) -> Result<Section, AllocError>
+        ensures { IfOk result (λ s. s ≡ empty_section segment.now name.now kind macho_flags None) }
+    {
+        let segment = segment.to_vec(alloc)?;
+        let name = name.to_vec(alloc)?;
+        Ok(empty_section(segment, name, kind, macho_flags, None))
     }
 
     /// Appends contents behind zeros up to their alignment, and answers their offset.
@@ -138,19 +156,22 @@ impl Section {
     }
 }
 
+// A section with these marks, in which nothing is yet.
 fn empty_section(
-    alloc: Global,
+    segment: Vec<u8>,
     name: Vec<u8>,
     kind: SectionKind,
+    macho_flags: u32,
     shared: Option<StandardSection>,
 ) -> Section
-    ensures { result ≡ empty_section [] name.items kind 0 shared }
+    ensures { result ≡ empty_section segment.items name.items kind macho_flags shared }
 {
+    let alloc = *name.allocator();
     Section {
-        segment: Vec::new(alloc),
+        segment,
         name,
         kind,
-        macho_flags: 0,
+        macho_flags,
         retain: false,
         align: 1,
         size: 0,

@@ -1,8 +1,9 @@
 //! Symbols of an object.
 
-ghost use Rattle.std.specs.Prelude.{◌≡◌, List, ℕ, IfOk};
+ghost use Rattle.std.specs.Prelude.{◌≡◌, IfOk};
+ghost use Rattle.object_core.specs.Appending.{defined_symbol};
 
-use crate::{SymbolKind, SymbolScope, SymbolSection};
+use crate::{SectionId, SymbolKind, SymbolScope, SymbolSection};
 use std::alloc::{AllocError, Global};
 use std::marker::Model;
 
@@ -13,6 +14,8 @@ pub struct SymbolName {
 }
 
 impl Model for SymbolName {
+    ghost use Rattle.std.specs.Prelude.{List, ℕ};
+
     ghost Value = { List ℕ };
 
     ghost view = { λ name. name.bytes.items };
@@ -34,12 +37,14 @@ impl SymbolName {
         Ok(SymbolName { bytes })
     }
 
+    /// Its bytes.
     pub fn as_slice(&self) -> &[u8]
         ensures { result.now ≡ self.now }
     {
         &self.bytes
     }
 
+    /// Its bytes, taken out of it.
     pub fn into_bytes(self) -> Vec<u8>
         ensures { result.items ≡ self }
     {
@@ -47,10 +52,11 @@ impl SymbolName {
     }
 }
 
-/// A symbol of an object. Its value is the offset in its section, in bytes.
+/// A symbol of an object.
 #[derive(Drop)]
 pub struct Symbol {
     pub name: SymbolName,
+    /// The offset in its section, in bytes.
     pub value: u128,
     /// How many bytes it names.
     pub size: u64,
@@ -61,4 +67,15 @@ pub struct Symbol {
     pub section: SymbolSection,
     /// The linker keeps it also where nothing uses it.
     pub no_dead_strip: bool,
+}
+
+impl Symbol {
+    /// Places it at an offset of a section, in bytes.
+    pub(crate) fn define(&mut self, section: SectionId, offset: u128, size: u64)
+        ensures { self.new ≡ defined_symbol section offset size self.old }
+    {
+        self.value = offset;
+        self.size = size;
+        self.section = SymbolSection::Section(section);
+    }
 }

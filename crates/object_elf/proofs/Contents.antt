@@ -1,26 +1,37 @@
 -- Contents, relocations, names and padding of the file of a table.
-use Rattle.std.proofs.Common.{◌≡◌, ℕ, zero, suc, ◌+◌, ◌-◌, ◌*◌, ◌==◌, List, [], ◌∷◌, length, take, refl, ap, arith, Some, true, not, slice_get}
+use Rattle.std.proofs.Common.{◌≡◌, ℕ, zero, suc, ◌+◌, ◌-◌, ◌*◌, ◌==◌, List, [], ◌∷◌, length, take, refl, ap, sym, ◌∙◌, arith, inl, inr, Some, true, not, slice_get}
 use Rattle.std.specs.Prelude.{count_by}
+use Rattle.std.proofs.lemmas.List.{nil_from_length}
 use Rattle.std.proofs.Math.Dec.{eqb-suc-zero}
 use Rattle.byte_core.specs.Number.{bytes_at}
 use Rattle.byte_core.proofs.Standing.{StandsAt, row_stands, bytes_stand}
 use Rattle.byte_core.proofs.LaidOut.{zeros, length-zeros}
 use Rattle.object_core.specs.LinkTable.{ElfTable, ElfTableSection, ElfRelocation}
-use Rattle.image_read.specs.ElfFile.{relocation_row_at}
-use Rattle.object_elf.specs.Layout.{Part, is_relocated, symbol_table_row, string_bytes_of, section_names, symbol_names, parts_of, end_of_parts, start_of, headers_start}
-use Rattle.object_elf.specs.ElfHolds.{record_for, part_offset, relocations_row, IsZero}
+use Rattle.image_read.specs.ElfFile.{ElfSectionRow, relocation_row_at, stored_bytes}
+use Rattle.object_elf.specs.Layout.{Part, content_part, is_relocated, symbol_table_row, string_bytes_of, section_names, symbol_names, parts_of, end_of_parts, start_of, headers_start}
+use Rattle.object_elf.specs.ElfHolds.{record_for, row_at, part_offset, relocations_row, IsZero}
 use Rattle.object_elf.specs.File.{section_contents, relocation_contents, relocation_row_bytes, string_contents, elf_file, contents_of}
-use Rattle.object_elf.specs.Fitting.{FitsElf, FitsRelocation}
+use Rattle.object_elf.specs.Fitting.{FitsElf, FitsRelocation, HasContents}
 use Rattle.object_elf.proofs.Rows.{FitsRelocationRow, relocation_row_stands, length-relocation_row_bytes}
 use Rattle.object_elf.proofs.Parts.{fit_contents, fit_table}
-use Rattle.object_elf.proofs.PartCases.{front_count, contents_at_section, contents_at_relocations, contents_at_symbol_strings, contents_at_section_strings}
+use Rattle.object_elf.proofs.PartCases.{front_count, part_at_section, contents_at_section, contents_at_relocations, contents_at_symbol_strings, contents_at_section_strings}
 use Rattle.object_elf.proofs.Places.{stands_in, gap_here}
-use Rattle.object_elf.proofs.SectionRows.{contents_at_offset}
+use Rattle.object_elf.proofs.SectionRows.{section_row_here, contents_at_offset}
 
-pub section_contents_here : (t : ElfTable) → FitsElf t → (k : ℕ) (s : ElfTableSection) → slice_get t.sections k ≡ Some s → bytes_at (elf_file t) (part_offset (elf_file t) t (k + 1)) (length s.contents) ≡ s.contents
-section_contents_here t f k s e =
+-- a section that is stored has its bytes by its own size, and one that isn't has none
+stored_here : (b : List ℕ) (row : ElfSectionRow) (s : ElfTableSection) → row.sh_type ≡ s.sh_type → row.size ≡ s.size → HasContents s → bytes_at b row.offset (length s.contents) ≡ s.contents → stored_bytes b row ≡ s.contents
+stored_here b row s kind size (inl h) here = rw (kind ∙ h.0, size ∙ h.1) here
+stored_here b row s kind size (inr h) here = rw (kind ∙ h.0) (sym (nil_from_length s.contents h.1))
+
+bytes_here : (t : ElfTable) → FitsElf t → (k : ℕ) (s : ElfTableSection) → slice_get t.sections k ≡ Some s → bytes_at (elf_file t) (part_offset (elf_file t) t (k + 1)) (length s.contents) ≡ s.contents
+bytes_here t f k s e =
     bytes_stand (elf_file t) s.contents (part_offset (elf_file t) t (k + 1)) (length s.contents)
     (contents_at_offset t f k (k + 1) (section_contents s) (contents_at_section t k s e) refl) refl
+
+pub section_contents_here : (t : ElfTable) → FitsElf t → (k : ℕ) (s : ElfTableSection) → slice_get t.sections k ≡ Some s → stored_bytes (elf_file t) (row_at (elf_file t) t (k + 1)) ≡ s.contents
+section_contents_here t f k s e =
+    let told = section_row_here t f k (content_part s) (part_at_section t k s e) in
+    stored_here (elf_file t) (row_at (elf_file t) t (k + 1)) s (ap (λ (r : ElfSectionRow). r.sh_type) told) (ap (λ (r : ElfSectionRow). r.size) told) (f.sections k s e).contents (bytes_here t f k s e)
 
 -- ---- relocations
 

@@ -125,6 +125,12 @@ part_case t k p e =
       | inr r ↦ let n : front_count t + r.0 ≡ k = omega (arith, r.1, length-front t) in table_case t r.0 k p n r.2
     ]
 
+pub part_at_section : (t : ElfTable) (k : ℕ) (s : ElfTableSection) → slice_get t.sections k ≡ Some s → slice_get (parts_of t) k ≡ Some (content_part s)
+unfolding parts_of
+part_at_section t k s e =
+    get_left (content_parts t ++ middle_parts t) (table_parts t) k (content_part s)
+    (get_left (content_parts t) (middle_parts t) k (content_part s) (get_map content_part t.sections k s e))
+
 part_at_table : (t : ElfTable) (j n : ℕ) (p : Part) → slice_get (table_parts t) j ≡ Some p → front_count t + j ≡ n → slice_get (parts_of t) n ≡ Some p
 unfolding parts_of
 part_at_table t j n p e m = get_right (content_parts t ++ middle_parts t) (table_parts t) j n p e (omega (arith, length-front t, m))

@@ -43,6 +43,7 @@ pub fn emit_elf(alloc: Global, object: &Object) -> Result<Vec<u8>, EmitError>
 
 /// The file of an object that reaches no limit.
 fn write_file(alloc: Global, object: &Object) -> Result<Vec<u8>, AllocError>
+    requires format { (object.now).format ≡ Elf }
     requires formed { IsFormedElf object.now }
     requires limits { IsWithinLimits (plain_counts object.now) }
     ensures fits { OnOk result (FitsElf (elf_table_of object.now)) }
@@ -163,6 +164,3 @@ fn push_symbol_strings(out: &mut Vec<u8>, symbols: &[Symbol]) -> Result<(), Allo
     push_symbol_names(out, symbols, false)?;
     Ok(())
 }
-
-#[cfg(test)]
-mod tests;

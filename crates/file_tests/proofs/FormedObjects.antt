@@ -3,7 +3,7 @@ use Rattle.std.proofs.Common.{◌≡◌, ℕ, false, Some, slice_get, refl, lit�
 use Rattle.object_core.specs.declared.relocation.Relocation.{Relocation}
 use Rattle.object_core.specs.WellFormed.{IsFormedSymbol, IsFormedRelocation, IsFormedElf, has_zero_byte}
 use Rattle.image_read.proofs.Below.{each_here}
-use Rattle.object_elf.specs.SmallObjects.{file_object, main_object}
+use Rattle.file_tests.specs.SmallObjects.{file_object, main_object}
 
 pub file_object_formed : IsFormedElf file_object
 file_object_formed = record {
