@@ -1,10 +1,5 @@
 //! The load configuration: Microsoft's PE Format, "The Load Configuration Structure (Image Only)".
 
-ghost use Rattle.std.specs.Prelude.{◌≡◌, ℕ, List, [], ◌∷◌};
-ghost use Rattle.goblin_pe.specs.LoadConfig.{load_config_fields};
-ghost use Rattle.goblin_pe.specs.LoadConfigFront.{are_there, IsFront};
-ghost use Rattle.goblin_pe.specs.LoadConfigConstants.{image_guards, load_flags};
-
 mod fields;
 
 use crate::pe_error::{Case, Error};
@@ -112,17 +107,6 @@ pub const LOAD_LIBRARY_SEARCH_SYSTEM32_NO_FORWARDER: u32 = 0x0000_4000;
 /// The library has the integrity of the system.
 pub const LOAD_LIBRARY_OS_INTEGRITY_CONTINUITY: u32 = 0x0000_8000;
 
-/// The constants of this module are the flags of the standard, in order.
-pub fn load_config_values()
-    ensures guards { IMAGE_GUARD_CF_INSTRUMENTED ∷ IMAGE_GUARD_CFW_INSTRUMENTED ∷ IMAGE_GUARD_CF_FUNCTION_TABLE_PRESENT ∷ IMAGE_GUARD_SECURITY_COOKIE_UNUSED ∷ IMAGE_GUARD_PROTECT_DELAYLOAD_IAT ∷ IMAGE_GUARD_DELAYLOAD_IAT_IN_ITS_OWN_SECTION ∷ IMAGE_GUARD_CF_EXPORT_SUPPRESSION_INFO_PRESENT ∷ IMAGE_GUARD_CF_ENABLE_EXPORT_SUPPRESSION ∷ IMAGE_GUARD_CF_LONGJUMP_TABLE_PRESENT ∷ IMAGE_GUARD_RF_INSTRUMENTED ∷ IMAGE_GUARD_RF_ENABLE ∷ IMAGE_GUARD_RF_STRICT ∷ IMAGE_GUARD_RETPOLINE_PRESENT ∷ IMAGE_GUARD_EH_CONTINUATION_TABLE_PRESENT ∷ IMAGE_GUARD_XFG_ENABLED ∷ IMAGE_GUARD_CASTGUARD_PRESENT ∷ IMAGE_GUARD_MEMCPY_PRESENT ∷ [] ≡ image_guards }
-    ensures flags { DONT_RESOLVE_DLL_REFERENCES ∷ LOAD_LIBRARY_AS_DATAFILE ∷ LOAD_PACKAGED_LIBRARY ∷ LOAD_WITH_ALTERED_SEARCH_PATH ∷ LOAD_IGNORE_CODE_AUTHZ_LEVEL ∷ LOAD_LIBRARY_AS_IMAGE_RESOURCE ∷ LOAD_LIBRARY_AS_DATAFILE_EXCLUSIVE ∷ LOAD_LIBRARY_REQUIRE_SIGNED_TARGET ∷ LOAD_LIBRARY_SEARCH_DLL_LOAD_DIR ∷ LOAD_LIBRARY_SEARCH_APPLICATION_DIR ∷ LOAD_LIBRARY_SEARCH_USER_DIRS ∷ LOAD_LIBRARY_SEARCH_SYSTEM32 ∷ LOAD_LIBRARY_SEARCH_DEFAULT_DIRS ∷ LOAD_LIBRARY_SAFE_CURRENT_DIRS ∷ LOAD_LIBRARY_SEARCH_SYSTEM32_NO_FORWARDER ∷ LOAD_LIBRARY_OS_INTEGRITY_CONTINUITY ∷ [] ≡ load_flags }
-{}
-
-/// From the first field on that the bytes are too short for, a load configuration has none.
-pub fn load_config_law()
-    ensures { (b : List ℕ) (w : ℕ) → IsFront (are_there (load_config_fields b w)) }
-{}
-
 /// How the code of an image is checked against a catalogue.
 #[derive(Clone, Copy, Debug, PartialEq, Eq)]
 pub struct LoadConfigCodeIntegrity {
@@ -158,9 +142,10 @@ pub struct LoadConfigDirectory {
     pub maximum_allocation_size: Option<u64>,
     /// The greatest block of the heap in bytes.
     pub virtual_memory_threshold: Option<u64>,
-    /// The processors on which the process runs.
+    /// The processors on which the process runs. As in the crate goblin it stands before the flags of the first heap in
+    /// files of both widths; PE Format has these first in files of 32 bits, so there the two fields are exchanged.
     pub process_affinity_mask: Option<u64>,
-    /// Flags of the first heap.
+    /// Flags of the first heap. In files of 32 bits it is read where PE Format has the processors.
     pub process_heap_flags: Option<u32>,
     /// The service pack.
     pub csd_version: Option<u16>,
@@ -362,6 +347,3 @@ impl LoadConfigData {
         Ok(LoadConfigData { directory })
     }
 }
-
-#[cfg(test)]
-mod tests;
