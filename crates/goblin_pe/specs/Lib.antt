@@ -15,7 +15,6 @@ pub mod Streams
 pub mod StreamsView
 pub mod LoadConfigConstants
 pub mod LoadConfig
-pub mod LoadConfigParts
 pub mod TlsConstants
 pub mod Tls
 pub mod AddressMap
