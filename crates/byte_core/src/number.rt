@@ -69,6 +69,3 @@ fn big_number_of(bytes: &[u8]) -> u64
     }
     number
 }
-
-#[cfg(test)]
-mod tests;

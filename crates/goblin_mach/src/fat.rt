@@ -166,5 +166,6 @@ fn word(bytes: &[u8], offset: usize) -> Option<u32>
     ensures { result ≡ where_inside bytes.now offset 4 (word_at bytes.now offset) }
 {
     let number = be_at(bytes, offset, 4)?;
-    Some(number as u32)
+    let word = number as u32;
+    Some(word)
 }

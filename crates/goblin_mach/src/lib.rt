@@ -12,8 +12,6 @@ mod fat;
 mod header;
 mod laws;
 mod mach_error;
-#[cfg(test)]
-mod tests;
 
 pub use fat::{
     FAT_MAGIC, FAT_MAGIC_64, FatArch, FatArchIterator, MultiArch, SIZEOF_FAT_ARCH,

@@ -2,6 +2,7 @@ pub mod NumberBounds
 pub mod Texts
 pub mod NextSections
 pub mod RangesLeft
+pub mod AscendingOrder
 pub mod FreshRanges
 pub mod SignedFile
 pub mod Callbacks

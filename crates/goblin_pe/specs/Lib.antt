@@ -1,3 +1,4 @@
+pub mod ConstantRows
 pub mod HeaderConstants
 pub mod Steps
 pub mod FindOffset
@@ -14,7 +15,6 @@ pub mod Streams
 pub mod StreamsView
 pub mod LoadConfigConstants
 pub mod LoadConfig
-pub mod LoadConfigParts
 pub mod TlsConstants
 pub mod Tls
 pub mod AddressMap

@@ -1,14 +1,15 @@
 //! The bytes of a file that its signature covers: "Windows Authenticode Portable Executable Signature Format",
 //! "Calculating the PE Image Hash".
 
-ghost use Rattle.std.specs.Prelude.{◌≡◌, ◌≤◌, ◌<◌, ◌+◌, ◌-◌, ◌^◌, ◌||◌, nat_le, nat_lt, min, List, [], ◌∷◌, length, ℕ, IsTrue, if◌then◌else◌};
+ghost use Rattle.std.specs.Prelude.{◌≡◌, ◌≤◌, ◌<◌, ◌+◌, ◌-◌, ◌^◌, ◌||◌, nat_le, nat_lt, min, List, [], ◌∷◌, length, filter, position, ℕ, None, IsTrue, if◌then◌else◌};
 ghost use Rattle.std.specs.Iterator.{YieldsFirstRef, item_count};
 ghost use Rattle.std.specs.Option.{option_copied, option_to_list};
-ghost use Rattle.goblin_pe.specs.SignedRanges.{signed_ranges, checked_ranges, ranges_of, are_in_order, are_certificates_inside, bytes_hashed, bytes_between, fill_ranges, AreInside};
+ghost use Rattle.goblin_pe.specs.SignedRanges.{signed_ranges, checked_ranges, ranges_of, are_in_order, are_certificates_inside, bytes_hashed, bytes_between, by_pointer, fill_ranges, is_filled, is_outside, AreInside};
+ghost use Rattle.goblin_pe.specs.RangesLeft.{sections_left};
 
 use crate::pe_error::{Case, Error};
 use crate::section_bytes::{bytes_of, demand_inside, raw_sizes_behind};
-use crate::section_order::next_section;
+use crate::section_order::{are_ascending, next_filled, next_section};
 use crate::section_table::SectionTable;
 use crate::steps::demand;
 use std::marker::Model;
@@ -58,6 +59,10 @@ impl<'a> PE<'a> {
     }
 
     /// The ranges that the signature covers, in order. Where no places are known, it is the whole file.
+    ///
+    /// It takes no memory. Where the pointers of the sections that have bytes ascend, as linkers write them, all the
+    /// ranges take one pass over the table; else each section takes a pass of its own, so that the time grows with the
+    /// square of the number of sections.
     pub fn authenticode_ranges(&self) -> Result<ExcludedSectionsIter<'_>, Error>
         ensures { result ≡ signed_ranges self.now.bytes.now self.now.sections.now self.now.excluded }
     {
@@ -75,8 +80,12 @@ pub struct ExcludedSectionsIter<'s> {
     before_checksum: Option<&'s [u8]>,
     before_entry: Option<&'s [u8]>,
     before_header_end: Option<&'s [u8]>,
-    sections: &'s [SectionTable],
-    /// By pointer and then number, the next section doesn't come before these.
+    /// A table whose pointers ascend, else none; of it the sections from this number on are left.
+    ascending: &'s [SectionTable],
+    at: usize,
+    /// A table in another order, else none.
+    scattered: &'s [SectionTable],
+    /// By pointer and then number, the next of its sections doesn't come before these.
     pointer: u32,
     number: usize,
     extra: Option<&'s [u8]>,
@@ -92,7 +101,7 @@ impl<'s> Model for ExcludedSectionsIter<'s> {
 
     ghost view = { ranges_left };
 
-    ghost invariant = { λ it. AreInside it.bytes.now it.sections.now };
+    ghost invariant = { λ it. AreInside it.bytes.now it.ascending.now × AreInside it.bytes.now it.scattered.now };
 }
 
 impl<'s> Iterator for ExcludedSectionsIter<'s> {
@@ -102,7 +111,7 @@ impl<'s> Iterator for ExcludedSectionsIter<'s> {
 
     ghost remaining = { item_count (λ left. left) };
 
-    #[tactic(auto, using(crate::proofs::RangesLeft::no_ranges, crate::proofs::RangesLeft::next_ranges, crate::proofs::RangesLeft::next_inside))]
+    #[tactic(auto, using(crate::proofs::RangesLeft::no_ranges, crate::proofs::RangesLeft::next_ascending, crate::proofs::RangesLeft::held_inside, crate::proofs::RangesLeft::next_scattered, crate::proofs::RangesLeft::next_inside))]
     fn next(&mut self) -> Option<&'s [u8]> {
         if let Some(range) = self.before_checksum.take() {
             return Some(range);
@@ -113,7 +122,11 @@ impl<'s> Iterator for ExcludedSectionsIter<'s> {
         if let Some(range) = self.before_header_end.take() {
             return Some(range);
         }
-        if let Some(next) = next_section(self.sections, self.pointer, self.number) {
+        if let Some(next) = next_filled(self.ascending, self.at) {
+            self.at = next.number + 1;
+            return Some(bytes_of(self.bytes, next.section));
+        }
+        if let Some(next) = next_section(self.scattered, self.pointer, self.number) {
             self.pointer = next.section.pointer_to_raw_data;
             self.number = next.number + 1;
             return Some(bytes_of(self.bytes, next.section));
@@ -135,7 +148,9 @@ fn whole(bytes: &[u8]) -> ExcludedSectionsIter<'_>
         before_checksum: Some(bytes),
         before_entry: None,
         before_header_end: None,
-        sections: &[],
+        ascending: &[],
+        at: 0,
+        scattered: &[],
         pointer: 0,
         number: 0,
         extra: None,
@@ -198,16 +213,44 @@ fn ranges<'s>(
 {
     let checksum = &excluded.checksum;
     let entry = &excluded.datadir_entry_certtable;
+    let table = in_order(sections);
     ExcludedSectionsIter {
         bytes,
         before_checksum: Some(&bytes[..checksum.start]),
         before_entry: Some(&bytes[checksum.end..entry.start]),
         before_header_end: Some(&bytes[entry.end..excluded.end_image_header]),
-        sections,
+        ascending: table.ascending,
+        at: 0,
+        scattered: table.scattered,
         pointer: 0,
         number: 0,
         extra: extra(bytes, hashed, excluded.certificate_table_size),
         fill: fill(bytes.len()),
+    }
+}
+
+/// A section table as the whole of one of these, by its order.
+#[derive(Drop)]
+struct OrderedTable<'s> {
+    ascending: &'s [SectionTable],
+    scattered: &'s [SectionTable],
+}
+
+#[tactic(auto, using(crate::proofs::AscendingOrder::all_ascending, crate::proofs::AscendingOrder::all_scattered))]
+fn in_order(sections: &[SectionTable]) -> OrderedTable<'_>
+    ensures all { sections_left result.ascending.now 0 result.scattered.now 0 0 ≡ by_pointer (filter is_filled sections.now) }
+    ensures inside { (n : ℕ) → position (is_outside n) sections.now ≡ None → (position (is_outside n) result.ascending.now ≡ None) × (position (is_outside n) result.scattered.now ≡ None) }
+{
+    if are_ascending(sections) {
+        OrderedTable {
+            ascending: sections,
+            scattered: &[],
+        }
+    } else {
+        OrderedTable {
+            ascending: &[],
+            scattered: sections,
+        }
     }
 }
 
@@ -233,6 +276,3 @@ fn fill(len: usize) -> Option<&'static [u8]>
     }
     Some(&ZEROS[..count])
 }
-
-#[cfg(test)]
-mod tests;

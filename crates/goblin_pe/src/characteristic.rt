@@ -1,7 +1,6 @@
 //! The bits of the field `Characteristics` of the file header: Microsoft's PE Format, "Characteristics".
 
-ghost use Rattle.std.specs.Prelude.{◌≡◌, ◌==◌, [], ◌∷◌, bit_and};
-ghost use Rattle.goblin_pe.specs.HeaderConstants.{file_characteristics};
+ghost use Rattle.std.specs.Prelude.{◌≡◌, ◌==◌, bit_and};
 
 /// The image has no base relocations and must be loaded at its preferred address.
 pub const IMAGE_FILE_RELOCS_STRIPPED: u16 = 0x0001;
@@ -50,11 +49,6 @@ pub const IMAGE_FILE_UP_SYSTEM_ONLY: u16 = 0x4000;
 
 /// The most significant byte comes first. Deprecated.
 pub const IMAGE_FILE_BYTES_REVERSED_HI: u16 = 0x8000;
-
-/// The constants of this module are the bits of the standard, in order.
-pub fn characteristic_values()
-    ensures { IMAGE_FILE_RELOCS_STRIPPED ∷ IMAGE_FILE_EXECUTABLE_IMAGE ∷ IMAGE_FILE_LINE_NUMS_STRIPPED ∷ IMAGE_FILE_LOCAL_SYMS_STRIPPED ∷ IMAGE_FILE_AGGRESSIVE_WS_TRIM ∷ IMAGE_FILE_LARGE_ADDRESS_AWARE ∷ RESERVED ∷ IMAGE_FILE_BYTES_REVERSED_LO ∷ IMAGE_FILE_32BIT_MACHINE ∷ IMAGE_FILE_DEBUG_STRIPPED ∷ IMAGE_FILE_REMOVABLE_RUN_FROM_SWAP ∷ IMAGE_FILE_NET_RUN_FROM_SWAP ∷ IMAGE_FILE_SYSTEM ∷ IMAGE_FILE_DLL ∷ IMAGE_FILE_UP_SYSTEM_ONLY ∷ IMAGE_FILE_BYTES_REVERSED_HI ∷ [] ≡ file_characteristics }
-{}
 
 /// Whether the characteristics are those of a dynamic-link library.
 pub fn is_dll(characteristics: u16) -> bool

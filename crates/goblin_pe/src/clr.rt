@@ -1,8 +1,5 @@
 //! CLR metadata: ECMA-335, partition II, "CLI header" and "Metadata root".
 
-ghost use Rattle.std.specs.Prelude.{◌≡◌, [], ◌∷◌};
-ghost use Rattle.goblin_pe.specs.ClrConstants.{metadata_signature, runtime_flags, runtime_versions, vtable_kinds};
-
 mod cor20_header;
 mod metadata_root;
 mod storage;
@@ -70,14 +67,6 @@ pub const COR_VTABLE_FROM_UNMANAGED_RETAIN_APPDOMAIN: u32 = 0x08;
 
 /// The most derived method is called.
 pub const COR_VTABLE_CALL_MOST_DERIVED: u32 = 0x10;
-
-/// The constants of this module are the numbers of the standard, in order.
-pub fn clr_values()
-    ensures signature { DOTNET_SIGNATURE ≡ metadata_signature }
-    ensures flags { COMIMAGE_FLAGS_ILONLY ∷ COMIMAGE_FLAGS_32BITREQUIRED ∷ COMIMAGE_FLAGS_IL_LIBRARY ∷ COMIMAGE_FLAGS_STRONGNAMESIGNED ∷ COMIMAGE_FLAGS_NATIVE_ENTRYPOINT ∷ COMIMAGE_FLAGS_TRACKDEBUGDATA ∷ COMIMAGE_FLAGS_32BITPREFERRED ∷ [] ≡ runtime_flags }
-    ensures versions { COR_VERSION_MAJOR_V2 ∷ COR_VERSION_MAJOR ∷ COR_VERSION_MINOR ∷ COR_DELETED_NAME_LENGTH ∷ COR_VTABLEGAP_NAME_LENGTH ∷ [] ≡ runtime_versions }
-    ensures kinds { COR_VTABLE_32BIT ∷ COR_VTABLE_64BIT ∷ COR_VTABLE_FROM_UNMANAGED ∷ COR_VTABLE_FROM_UNMANAGED_RETAIN_APPDOMAIN ∷ COR_VTABLE_CALL_MOST_DERIVED ∷ [] ≡ vtable_kinds }
-{}
 
 /// The CLR data of an image.
 #[derive(Clone, Copy, Debug, Default, PartialEq)]
@@ -174,6 +163,3 @@ impl<'a> ClrData<'a> {
         }
     }
 }
-
-#[cfg(test)]
-mod tests;

@@ -1,9 +1,6 @@
 //! The bits of the field `DllCharacteristics` of the optional header: Microsoft's PE Format, "DLL Characteristics".
 //! Bits below 0x20 are reserved.
 
-ghost use Rattle.std.specs.Prelude.{◌≡◌, [], ◌∷◌};
-ghost use Rattle.goblin_pe.specs.HeaderConstants.{dll_characteristics};
-
 /// The image can be placed anywhere in 64 bits of address space.
 pub const IMAGE_DLLCHARACTERISTICS_HIGH_ENTROPY_VA: u16 = 0x0020;
 
@@ -36,8 +33,3 @@ pub const IMAGE_DLLCHARACTERISTICS_GUARD_CF: u16 = 0x4000;
 
 /// The image knows of terminal servers.
 pub const IMAGE_DLLCHARACTERISTICS_TERMINAL_SERVER_AWARE: u16 = 0x8000;
-
-/// The constants of this module are the bits of the standard, in order.
-pub fn dll_characteristic_values()
-    ensures { IMAGE_DLLCHARACTERISTICS_HIGH_ENTROPY_VA ∷ IMAGE_DLLCHARACTERISTICS_DYNAMIC_BASE ∷ IMAGE_DLLCHARACTERISTICS_FORCE_INTEGRITY ∷ IMAGE_DLLCHARACTERISTICS_NX_COMPAT ∷ IMAGE_DLLCHARACTERISTICS_NO_ISOLATION ∷ IMAGE_DLLCHARACTERISTICS_NO_SEH ∷ IMAGE_DLLCHARACTERISTICS_NO_BIND ∷ IMAGE_DLLCHARACTERISTICS_APPCONTAINER ∷ IMAGE_DLLCHARACTERISTICS_WDM_DRIVER ∷ IMAGE_DLLCHARACTERISTICS_GUARD_CF ∷ IMAGE_DLLCHARACTERISTICS_TERMINAL_SERVER_AWARE ∷ [] ≡ dll_characteristics }
-{}

@@ -8,13 +8,13 @@ mod authenticode;
 pub mod characteristic;
 pub mod clr;
 pub mod dll_characteristic;
+mod laws;
 pub mod load_config;
 mod pe_error;
 mod rva;
 mod section_bytes;
 mod section_order;
 mod section_table;
-mod signed_file;
 mod steps;
 pub mod subsystem;
 pub mod tls;
@@ -23,13 +23,11 @@ pub use authenticode::{ExcludedSections, ExcludedSectionsIter, PE};
 pub use clr::{
     ClrData, ClrSectionIterator, Cor20Header, StorageHeader, StorageSignature, StorageStream,
 };
-pub use load_config::{
-    LoadConfigCodeIntegrity, LoadConfigData, LoadConfigDirectory, load_config_law,
-};
+pub use laws::{constant_laws, load_config_law, signed_file_law};
+pub use load_config::{LoadConfigCodeIntegrity, LoadConfigData, LoadConfigDirectory};
 pub use pe_error::{Case, Error};
 pub use rva::find_offset;
 pub use section_table::{DataDirectory, ParseOptions, SectionTable};
-pub use signed_file::signed_file_law;
 pub use tls::{ImageTlsDirectory, TlsData};
 
 // The bits of the file header's characteristics.
@@ -41,30 +39,30 @@ pub use characteristic::{
     IMAGE_FILE_REMOVABLE_RUN_FROM_SWAP, IMAGE_FILE_SYSTEM, IMAGE_FILE_UP_SYSTEM_ONLY, RESERVED,
 };
 
-// What they say, and their values.
-pub use characteristic::{characteristic_values, is_dll, is_exe};
+// What they say.
+pub use characteristic::{is_dll, is_exe};
 
-// The bits of the optional header's characteristics, and their values.
+// The bits of the optional header's characteristics.
 pub use dll_characteristic::{
     IMAGE_DLLCHARACTERISTICS_APPCONTAINER, IMAGE_DLLCHARACTERISTICS_DYNAMIC_BASE,
     IMAGE_DLLCHARACTERISTICS_FORCE_INTEGRITY, IMAGE_DLLCHARACTERISTICS_GUARD_CF,
     IMAGE_DLLCHARACTERISTICS_HIGH_ENTROPY_VA, IMAGE_DLLCHARACTERISTICS_NO_BIND,
     IMAGE_DLLCHARACTERISTICS_NO_ISOLATION, IMAGE_DLLCHARACTERISTICS_NO_SEH,
     IMAGE_DLLCHARACTERISTICS_NX_COMPAT, IMAGE_DLLCHARACTERISTICS_TERMINAL_SERVER_AWARE,
-    IMAGE_DLLCHARACTERISTICS_WDM_DRIVER, dll_characteristic_values,
+    IMAGE_DLLCHARACTERISTICS_WDM_DRIVER,
 };
 
-// The subsystems, and their values.
+// The subsystems.
 pub use subsystem::{
     IMAGE_SUBSYSTEM_EFI_APPLICATION, IMAGE_SUBSYSTEM_EFI_BOOT_SERVICE_DRIVER,
     IMAGE_SUBSYSTEM_EFI_ROM, IMAGE_SUBSYSTEM_EFI_RUNTIME_DRIVER, IMAGE_SUBSYSTEM_NATIVE,
     IMAGE_SUBSYSTEM_NATIVE_WINDOWS, IMAGE_SUBSYSTEM_OS2_CUI, IMAGE_SUBSYSTEM_POSIX_CUI,
     IMAGE_SUBSYSTEM_UNKNOWN, IMAGE_SUBSYSTEM_WINDOWS_BOOT_APPLICATION,
     IMAGE_SUBSYSTEM_WINDOWS_CE_GUI, IMAGE_SUBSYSTEM_WINDOWS_CUI, IMAGE_SUBSYSTEM_WINDOWS_GUI,
-    IMAGE_SUBSYSTEM_XBOX, subsystem_values,
+    IMAGE_SUBSYSTEM_XBOX,
 };
 
-// The numbers of the CLR header, and their values.
+// The numbers of the CLR header.
 pub use clr::{
     COMIMAGE_FLAGS_32BITPREFERRED, COMIMAGE_FLAGS_32BITREQUIRED, COMIMAGE_FLAGS_IL_LIBRARY,
     COMIMAGE_FLAGS_ILONLY, COMIMAGE_FLAGS_NATIVE_ENTRYPOINT, COMIMAGE_FLAGS_STRONGNAMESIGNED,
@@ -72,7 +70,6 @@ pub use clr::{
     COR_VERSION_MAJOR_V2, COR_VERSION_MINOR, COR_VTABLE_32BIT, COR_VTABLE_64BIT,
     COR_VTABLE_CALL_MOST_DERIVED, COR_VTABLE_FROM_UNMANAGED,
     COR_VTABLE_FROM_UNMANAGED_RETAIN_APPDOMAIN, COR_VTABLEGAP_NAME_LENGTH, DOTNET_SIGNATURE,
-    clr_values,
 };
 
 // The guards of an image.
@@ -87,7 +84,7 @@ pub use load_config::{
     IMAGE_GUARD_XFG_ENABLED,
 };
 
-// How libraries are loaded, and the values of these flags.
+// How libraries are loaded.
 pub use load_config::{
     DONT_RESOLVE_DLL_REFERENCES, LOAD_IGNORE_CODE_AUTHZ_LEVEL, LOAD_LIBRARY_AS_DATAFILE,
     LOAD_LIBRARY_AS_DATAFILE_EXCLUSIVE, LOAD_LIBRARY_AS_IMAGE_RESOURCE,
@@ -96,10 +93,9 @@ pub use load_config::{
     LOAD_LIBRARY_SEARCH_DEFAULT_DIRS, LOAD_LIBRARY_SEARCH_DLL_LOAD_DIR,
     LOAD_LIBRARY_SEARCH_SYSTEM32, LOAD_LIBRARY_SEARCH_SYSTEM32_NO_FORWARDER,
     LOAD_LIBRARY_SEARCH_USER_DIRS, LOAD_PACKAGED_LIBRARY, LOAD_WITH_ALTERED_SEARCH_PATH,
-    load_config_values,
 };
 
-// The alignments of thread-local data, and their values.
+// The alignments of thread-local data.
 pub use tls::{
     TLS_CHARACTERISTICS_ALIGN_1BYTES, TLS_CHARACTERISTICS_ALIGN_2BYTES,
     TLS_CHARACTERISTICS_ALIGN_4BYTES, TLS_CHARACTERISTICS_ALIGN_8BYTES,
@@ -108,5 +104,5 @@ pub use tls::{
     TLS_CHARACTERISTICS_ALIGN_256BYTES, TLS_CHARACTERISTICS_ALIGN_512BYTES,
     TLS_CHARACTERISTICS_ALIGN_1024BYTES, TLS_CHARACTERISTICS_ALIGN_2048BYTES,
     TLS_CHARACTERISTICS_ALIGN_4096BYTES, TLS_CHARACTERISTICS_ALIGN_8192BYTES,
-    TLS_CHARACTERISTICS_ALIGN_MASK, tls_values,
+    TLS_CHARACTERISTICS_ALIGN_MASK,
 };

@@ -1,17 +1,12 @@
 //! The load configuration: Microsoft's PE Format, "The Load Configuration Structure (Image Only)".
 
-ghost use Rattle.std.specs.Prelude.{◌≡◌, ℕ, List, [], ◌∷◌};
-ghost use Rattle.goblin_pe.specs.LoadConfig.{load_config_fields};
-ghost use Rattle.goblin_pe.specs.LoadConfigFront.{are_there, IsFront};
-ghost use Rattle.goblin_pe.specs.LoadConfigConstants.{image_guards, load_flags};
-
 mod fields;
 
 use crate::pe_error::{Case, Error};
 use crate::rva::offset_or_refusal;
 use crate::section_table::{DataDirectory, ParseOptions, SectionTable};
 use crate::steps::{address_width, demand, is_inside};
-use fields::{guard_fields, heap_fields, later_fields, start_fields, table_fields};
+use fields::directory_fields;
 
 /// The image checks targets of calls.
 pub const IMAGE_GUARD_CF_INSTRUMENTED: u32 = 0x0000_0100;
@@ -112,17 +107,6 @@ pub const LOAD_LIBRARY_SEARCH_SYSTEM32_NO_FORWARDER: u32 = 0x0000_4000;
 /// The library has the integrity of the system.
 pub const LOAD_LIBRARY_OS_INTEGRITY_CONTINUITY: u32 = 0x0000_8000;
 
-/// The constants of this module are the flags of the standard, in order.
-pub fn load_config_values()
-    ensures guards { IMAGE_GUARD_CF_INSTRUMENTED ∷ IMAGE_GUARD_CFW_INSTRUMENTED ∷ IMAGE_GUARD_CF_FUNCTION_TABLE_PRESENT ∷ IMAGE_GUARD_SECURITY_COOKIE_UNUSED ∷ IMAGE_GUARD_PROTECT_DELAYLOAD_IAT ∷ IMAGE_GUARD_DELAYLOAD_IAT_IN_ITS_OWN_SECTION ∷ IMAGE_GUARD_CF_EXPORT_SUPPRESSION_INFO_PRESENT ∷ IMAGE_GUARD_CF_ENABLE_EXPORT_SUPPRESSION ∷ IMAGE_GUARD_CF_LONGJUMP_TABLE_PRESENT ∷ IMAGE_GUARD_RF_INSTRUMENTED ∷ IMAGE_GUARD_RF_ENABLE ∷ IMAGE_GUARD_RF_STRICT ∷ IMAGE_GUARD_RETPOLINE_PRESENT ∷ IMAGE_GUARD_EH_CONTINUATION_TABLE_PRESENT ∷ IMAGE_GUARD_XFG_ENABLED ∷ IMAGE_GUARD_CASTGUARD_PRESENT ∷ IMAGE_GUARD_MEMCPY_PRESENT ∷ [] ≡ image_guards }
-    ensures flags { DONT_RESOLVE_DLL_REFERENCES ∷ LOAD_LIBRARY_AS_DATAFILE ∷ LOAD_PACKAGED_LIBRARY ∷ LOAD_WITH_ALTERED_SEARCH_PATH ∷ LOAD_IGNORE_CODE_AUTHZ_LEVEL ∷ LOAD_LIBRARY_AS_IMAGE_RESOURCE ∷ LOAD_LIBRARY_AS_DATAFILE_EXCLUSIVE ∷ LOAD_LIBRARY_REQUIRE_SIGNED_TARGET ∷ LOAD_LIBRARY_SEARCH_DLL_LOAD_DIR ∷ LOAD_LIBRARY_SEARCH_APPLICATION_DIR ∷ LOAD_LIBRARY_SEARCH_USER_DIRS ∷ LOAD_LIBRARY_SEARCH_SYSTEM32 ∷ LOAD_LIBRARY_SEARCH_DEFAULT_DIRS ∷ LOAD_LIBRARY_SAFE_CURRENT_DIRS ∷ LOAD_LIBRARY_SEARCH_SYSTEM32_NO_FORWARDER ∷ LOAD_LIBRARY_OS_INTEGRITY_CONTINUITY ∷ [] ≡ load_flags }
-{}
-
-/// From the first field on that the bytes are too short for, a load configuration has none.
-pub fn load_config_law()
-    ensures { (b : List ℕ) (w : ℕ) → IsFront (are_there (load_config_fields b w)) }
-{}
-
 /// How the code of an image is checked against a catalogue.
 #[derive(Clone, Copy, Debug, PartialEq, Eq)]
 pub struct LoadConfigCodeIntegrity {
@@ -158,9 +142,10 @@ pub struct LoadConfigDirectory {
     pub maximum_allocation_size: Option<u64>,
     /// The greatest block of the heap in bytes.
     pub virtual_memory_threshold: Option<u64>,
-    /// The processors on which the process runs.
+    /// The processors on which the process runs. As in the crate goblin it stands before the flags of the first heap in
+    /// files of both widths; PE Format has these first in files of 32 bits, so there the two fields are exchanged.
     pub process_affinity_mask: Option<u64>,
-    /// Flags of the first heap.
+    /// Flags of the first heap. In files of 32 bits it is read where PE Format has the processors.
     pub process_heap_flags: Option<u32>,
     /// The service pack.
     pub csd_version: Option<u16>,
@@ -232,78 +217,15 @@ pub struct LoadConfigDirectory {
 }
 
 impl LoadConfigDirectory {
-    ghost use Rattle.std.specs.Prelude.{◌≡◌, ◌≤◌, length};
-    ghost use Rattle.goblin_pe.specs.LoadConfig.{load_config_at, load_config_fields};
+    ghost use Rattle.std.specs.Prelude.{◌≡◌};
+    ghost use Rattle.goblin_pe.specs.LoadConfig.{load_config_at};
 
     /// The configuration that these bytes hold. TooSmall where they are fewer than 4.
     pub fn parse(bytes: &[u8], is_64: bool) -> Result<Self, Error>
         ensures { result ≡ load_config_at bytes.now is_64 }
     {
         demand(bytes.len() >= 4, Case::TooSmall)?;
-        Ok(LoadConfigDirectory::fields(bytes, address_width(is_64)))
-    }
-
-    fn fields(bytes: &[u8], w: usize) -> LoadConfigDirectory
-        requires some { 4 ≤ length bytes.now }
-        requires width { w ≤ 8 }
-        ensures { result ≡ load_config_fields bytes.now w }
-    {
-        let start = start_fields(bytes);
-        let heap = heap_fields(bytes, w);
-        let guards = guard_fields(bytes, w);
-        let tables = table_fields(bytes, w);
-        let later = later_fields(bytes, w);
-        LoadConfigDirectory {
-            size: start.size,
-            time_stamp: start.time_stamp,
-            major_version: start.major_version,
-            minor_version: start.minor_version,
-            global_flags_clear: start.global_flags_clear,
-            global_flags_set: start.global_flags_set,
-            critical_section_default_timeout: start.critical_section_default_timeout,
-            de_commit_free_block_threshold: heap.de_commit_free_block_threshold,
-            de_commit_total_free_threshold: heap.de_commit_total_free_threshold,
-            lock_prefix_table: heap.lock_prefix_table,
-            maximum_allocation_size: heap.maximum_allocation_size,
-            virtual_memory_threshold: heap.virtual_memory_threshold,
-            process_affinity_mask: heap.process_affinity_mask,
-            process_heap_flags: heap.process_heap_flags,
-            csd_version: heap.csd_version,
-            dependent_load_flags: heap.dependent_load_flags,
-            edit_list: guards.edit_list,
-            security_cookie: guards.security_cookie,
-            se_handler_table: guards.se_handler_table,
-            se_handler_count: guards.se_handler_count,
-            guard_cf_check_function_pointer: guards.guard_cf_check_function_pointer,
-            guard_cf_dispatch_function_pointer: guards.guard_cf_dispatch_function_pointer,
-            guard_cf_function_table: guards.guard_cf_function_table,
-            guard_cf_function_count: guards.guard_cf_function_count,
-            guard_flags: guards.guard_flags,
-            code_integrity: guards.code_integrity,
-            guard_address_taken_iat_entry_table: tables.guard_address_taken_iat_entry_table,
-            guard_address_taken_iat_entry_count: tables.guard_address_taken_iat_entry_count,
-            guard_long_jump_target_table: tables.guard_long_jump_target_table,
-            guard_long_jump_target_count: tables.guard_long_jump_target_count,
-            dynamic_value_reloc_table: tables.dynamic_value_reloc_table,
-            chpe_metadata_pointer: tables.chpe_metadata_pointer,
-            guard_rf_failure_routine: tables.guard_rf_failure_routine,
-            guard_rf_failure_routine_function_pointer: tables.guard_rf_failure_routine_function_pointer,
-            dynamic_value_reloc_table_offset: tables.dynamic_value_reloc_table_offset,
-            dynamic_value_reloc_table_section: tables.dynamic_value_reloc_table_section,
-            reserved2: tables.reserved2,
-            guard_rf_verify_stack_pointer_function_pointer: later.guard_rf_verify_stack_pointer_function_pointer,
-            hot_patch_table_offset: later.hot_patch_table_offset,
-            reserved3: later.reserved3,
-            enclave_configuration_pointer: later.enclave_configuration_pointer,
-            volatile_metadata_pointer: later.volatile_metadata_pointer,
-            guard_eh_continuation_table: later.guard_eh_continuation_table,
-            guard_eh_continuation_count: later.guard_eh_continuation_count,
-            guard_xfg_check_function_pointer: later.guard_xfg_check_function_pointer,
-            guard_xfg_dispatch_function_pointer: later.guard_xfg_dispatch_function_pointer,
-            guard_xfg_table_dispatch_function_pointer: later.guard_xfg_table_dispatch_function_pointer,
-            cast_guard_os_determined_failure_mode: later.cast_guard_os_determined_failure_mode,
-            guard_memcpy_function_pointer: later.guard_memcpy_function_pointer,
-        }
+        Ok(directory_fields(bytes, address_width(is_64)))
     }
 }
 
@@ -362,6 +284,3 @@ impl LoadConfigData {
         Ok(LoadConfigData { directory })
     }
 }
-
-#[cfg(test)]
-mod tests;

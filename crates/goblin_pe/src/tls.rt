@@ -1,8 +1,5 @@
 //! Thread-local storage: Microsoft's PE Format, "The .tls Section".
 
-ghost use Rattle.std.specs.Prelude.{◌≡◌, [], ◌∷◌};
-ghost use Rattle.goblin_pe.specs.TlsConstants.{tls_alignments};
-
 mod callback_list;
 mod directory;
 mod mapping;
@@ -48,10 +45,12 @@ pub const TLS_CHARACTERISTICS_ALIGN_512BYTES: u32 = 0x00a0_0000;
 /// Raw data stands at a multiple of 1024 bytes.
 pub const TLS_CHARACTERISTICS_ALIGN_1024BYTES: u32 = 0x00b0_0000;
 
-/// Raw data stands at a multiple of 2048 bytes.
+/// Raw data stands at a multiple of 2048 bytes, in the crate goblin, whose value this is; PE Format gives 2048 bytes the
+/// number of `TLS_CHARACTERISTICS_ALIGN_4096BYTES`.
 pub const TLS_CHARACTERISTICS_ALIGN_2048BYTES: u32 = 0x00d0_0000;
 
-/// Raw data stands at a multiple of 4096 bytes.
+/// Raw data stands at a multiple of 4096 bytes, in the crate goblin, whose value this is; PE Format gives 4096 bytes the
+/// number of `TLS_CHARACTERISTICS_ALIGN_2048BYTES`.
 pub const TLS_CHARACTERISTICS_ALIGN_4096BYTES: u32 = 0x00c0_0000;
 
 /// Raw data stands at a multiple of 8192 bytes.
@@ -59,11 +58,6 @@ pub const TLS_CHARACTERISTICS_ALIGN_8192BYTES: u32 = 0x00e0_0000;
 
 /// The bits that give the alignment.
 pub const TLS_CHARACTERISTICS_ALIGN_MASK: u32 = 0x00f0_0000;
-
-/// The constants of this module in order.
-pub fn tls_values()
-    ensures { TLS_CHARACTERISTICS_ALIGN_1BYTES ∷ TLS_CHARACTERISTICS_ALIGN_2BYTES ∷ TLS_CHARACTERISTICS_ALIGN_4BYTES ∷ TLS_CHARACTERISTICS_ALIGN_8BYTES ∷ TLS_CHARACTERISTICS_ALIGN_16BYTES ∷ TLS_CHARACTERISTICS_ALIGN_32BYTES ∷ TLS_CHARACTERISTICS_ALIGN_64BYTES ∷ TLS_CHARACTERISTICS_ALIGN_128BYTES ∷ TLS_CHARACTERISTICS_ALIGN_256BYTES ∷ TLS_CHARACTERISTICS_ALIGN_512BYTES ∷ TLS_CHARACTERISTICS_ALIGN_1024BYTES ∷ TLS_CHARACTERISTICS_ALIGN_2048BYTES ∷ TLS_CHARACTERISTICS_ALIGN_4096BYTES ∷ TLS_CHARACTERISTICS_ALIGN_8192BYTES ∷ TLS_CHARACTERISTICS_ALIGN_MASK ∷ [] ≡ tls_alignments }
-{}
 
 /// The thread-local data of an image.
 #[derive(Debug, Drop, PartialEq)]
@@ -168,6 +162,3 @@ impl<'a> TlsData<'a> {
         }))
     }
 }
-
-#[cfg(test)]
-mod tests;

@@ -78,7 +78,7 @@ pub const R_ARM_BASE_ABS: u32 = 31;
 pub const R_ARM_ALU_PCREL_7_0: u32 = 32;
 /// Bits 8 to 15 of S + A - P in an arithmetic instruction; out of use.
 pub const R_ARM_ALU_PCREL_15_8: u32 = 33;
-/// Bits 16 to 23 of S + A - P in an arithmetic instruction; out of use.
+/// The third part of S + A - P in an arithmetic instruction; out of use.
 pub const R_ARM_ALU_PCREL_23_15: u32 = 34;
 /// Bits 0 to 11 of S + A - B(S) in a load or store, not checked; out of use.
 pub const R_ARM_LDR_SBREL_11_0: u32 = 35;
@@ -182,13 +182,13 @@ pub const R_ARM_LDC_SB_G2: u32 = 83;
 pub const R_ARM_MOVW_BREL_NC: u32 = 84;
 /// Bits 16 to 31 of S + A - B(S) in a MOVT.
 pub const R_ARM_MOVT_BREL: u32 = 85;
-/// Bits 0 to 15 of ((S + A) | T) - B(S) in a MOVW, unsigned and checked.
+/// Bits 0 to 15 of ((S + A) | T) - B(S) in a MOVW.
 pub const R_ARM_MOVW_BREL: u32 = 86;
 /// Bits 0 to 15 of ((S + A) | T) - B(S) in a Thumb MOVW, not checked.
 pub const R_ARM_THM_MOVW_BREL_NC: u32 = 87;
 /// Bits 16 to 31 of S + A - B(S) in a Thumb MOVT.
 pub const R_ARM_THM_MOVT_BREL: u32 = 88;
-/// Bits 0 to 15 of ((S + A) | T) - B(S) in a Thumb MOVW, unsigned and checked.
+/// Bits 0 to 15 of ((S + A) | T) - B(S) in a Thumb MOVW.
 pub const R_ARM_THM_MOVW_BREL: u32 = 89;
 /// The symbol's TLS descriptor, less P, plus A, in 4 bytes, signed.
 pub const R_ARM_TLS_GOTDESC: u32 = 90;

@@ -1,10 +1,11 @@
 //! Relocations of LoongArch, by the "LoongArch ELF psABI" specification ("Relocations").
 //!
 //! In the formulas S is the symbol's value, A the addend, P the address of the field, V what the field
-//! held, B the address at which the object is loaded, GOT the address of the global offset table, G the
-//! offset of the symbol's entry in it, TP the thread pointer, and DTP the start of the module's block
-//! of thread-local data. A page has 4,096 bytes. An address has 4 or 8 bytes by the file's class. A
-//! pair in the GOT is the module and the offset by which thread-local data is found.
+//! held, B the address at which the object is loaded, GOT the address of the global offset table, G
+//! the offset of the symbol's entry in it, TP the thread pointer, and DTP the start of the module's
+//! block of thread-local data. A page has 4,096 bytes. A part of a number is corrected where the parts
+//! below it are read as signed. An address has 4 or 8 bytes by the file's class. A pair in the GOT is
+//! the module and the offset by which thread-local data is found.
 
 /// Nothing is filled in.
 pub const R_LARCH_NONE: u32 = 0;
@@ -132,17 +133,17 @@ pub const R_LARCH_ABS64_HI12: u32 = 70;
 pub const R_LARCH_PCALA_HI20: u32 = 71;
 /// Bits 0 to 11 of S + A in the 12 bits of an instruction, read as signed.
 pub const R_LARCH_PCALA_LO12: u32 = 72;
-/// Bits 32 to 51 of the page of S + A, less the page of P.
+/// Bits 32 to 51 of the page of S + A, less the page of P, corrected.
 pub const R_LARCH_PCALA64_LO20: u32 = 73;
-/// Bits 52 to 63 of the page of S + A, less the page of P.
+/// Bits 52 to 63 of the page of S + A, less the page of P, corrected.
 pub const R_LARCH_PCALA64_HI12: u32 = 74;
 /// Bits 12 to 31 of the page of G + GOT, less the page of P, rounded for a signed low part.
 pub const R_LARCH_GOT_PC_HI20: u32 = 75;
 /// Bits 0 to 11 of G + GOT in the 12 bits of an instruction, read as signed.
 pub const R_LARCH_GOT_PC_LO12: u32 = 76;
-/// Bits 32 to 51 of the page of G + GOT, less the page of P.
+/// Bits 32 to 51 of the page of G + GOT, less the page of P, corrected.
 pub const R_LARCH_GOT64_PC_LO20: u32 = 77;
-/// Bits 52 to 63 of the page of G + GOT, less the page of P.
+/// Bits 52 to 63 of the page of G + GOT, less the page of P, corrected.
 pub const R_LARCH_GOT64_PC_HI12: u32 = 78;
 /// Bits 12 to 31 of G + GOT in the 20 bits of an instruction.
 pub const R_LARCH_GOT_HI20: u32 = 79;
@@ -164,9 +165,9 @@ pub const R_LARCH_TLS_LE64_HI12: u32 = 86;
 pub const R_LARCH_TLS_IE_PC_HI20: u32 = 87;
 /// Bits 0 to 11 of the GOT entry with S - TP (initial exec).
 pub const R_LARCH_TLS_IE_PC_LO12: u32 = 88;
-/// Bits 32 to 51 of the page of the GOT entry with S - TP, less the page of P (initial exec).
+/// Bits 32 to 51 of the page of the GOT entry with S - TP, less the page of P, corrected (initial exec).
 pub const R_LARCH_TLS_IE64_PC_LO20: u32 = 89;
-/// Bits 52 to 63 of the page of the GOT entry with S - TP, less the page of P (initial exec).
+/// Bits 52 to 63 of the page of the GOT entry with S - TP, less the page of P, corrected (initial exec).
 pub const R_LARCH_TLS_IE64_PC_HI12: u32 = 90;
 /// Bits 12 to 31 of the address of the GOT entry with S - TP (initial exec).
 pub const R_LARCH_TLS_IE_HI20: u32 = 91;
@@ -212,9 +213,9 @@ pub const R_LARCH_CALL36: u32 = 110;
 pub const R_LARCH_TLS_DESC_PC_HI20: u32 = 111;
 /// Bits 0 to 11 of the address of the symbol's TLS descriptor.
 pub const R_LARCH_TLS_DESC_PC_LO12: u32 = 112;
-/// Bits 32 to 51 of the page of the symbol's TLS descriptor, less the page of P.
+/// Bits 32 to 51 of the page of the symbol's TLS descriptor, less the page of P, corrected.
 pub const R_LARCH_TLS_DESC64_PC_LO20: u32 = 113;
-/// Bits 52 to 63 of the page of the symbol's TLS descriptor, less the page of P.
+/// Bits 52 to 63 of the page of the symbol's TLS descriptor, less the page of P, corrected.
 pub const R_LARCH_TLS_DESC64_PC_HI12: u32 = 114;
 /// Bits 12 to 31 of the address of the symbol's TLS descriptor.
 pub const R_LARCH_TLS_DESC_HI20: u32 = 115;

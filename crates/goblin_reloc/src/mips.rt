@@ -13,7 +13,7 @@ pub const R_MIPS_NONE: u32 = 0;
 pub const R_MIPS_16: u32 = 1;
 /// S + A in 4 bytes.
 pub const R_MIPS_32: u32 = 2;
-/// S + A less what the field held, in 4 bytes, filled in at load time.
+/// S + A, less the symbol's address before the file was moved, in 4 bytes, filled in at load time.
 pub const R_MIPS_REL32: u32 = 3;
 /// S + A in the 26 bits of a jump, in words, within the 256 MiB of P.
 pub const R_MIPS_26: u32 = 4;
@@ -27,7 +27,7 @@ pub const R_MIPS_GPREL16: u32 = 7;
 pub const R_MIPS_LITERAL: u32 = 8;
 /// G + A in 16 bits, signed: the symbol's or its page's entry in the GOT.
 pub const R_MIPS_GOT16: u32 = 9;
-/// S + A - P in 16 bits, signed.
+/// S + A - P in 16 bits, signed, in words.
 pub const R_MIPS_PC16: u32 = 10;
 /// G + A in 16 bits, signed, of a function's entry in the GOT.
 pub const R_MIPS_CALL16: u32 = 11;
@@ -51,9 +51,9 @@ pub const R_MIPS_GOT_HI16: u32 = 22;
 pub const R_MIPS_GOT_LO16: u32 = 23;
 /// S - A in 8 bytes.
 pub const R_MIPS_SUB: u32 = 24;
-/// Says that an instruction is put in front of this place.
+/// An instruction is put in at this place, the first of two forms.
 pub const R_MIPS_INSERT_A: u32 = 25;
-/// Says that an instruction is put in front of this place, and that jumps go behind it.
+/// An instruction is put in at this place, the second of two forms.
 pub const R_MIPS_INSERT_B: u32 = 26;
 /// Says that the instruction at this place is taken out.
 pub const R_MIPS_DELETE: u32 = 27;
@@ -73,7 +73,7 @@ pub const R_MIPS_REL16: u32 = 33;
 pub const R_MIPS_ADD_IMMEDIATE: u32 = 34;
 /// A jump that may be out of reach; out of use.
 pub const R_MIPS_PJUMP: u32 = 35;
-/// S + A less what the field held, in 4 bytes, for an entry of a second GOT.
+/// S + A, less the symbol's address before the file was moved, in 4 bytes of a second GOT.
 pub const R_MIPS_RELGOT: u32 = 36;
 /// Names the target of a jump through a register, which the linker may make direct.
 pub const R_MIPS_JALR: u32 = 37;

@@ -5,7 +5,7 @@
 //! which the object is loaded, G the offset of the symbol's entry in the global offset table (GOT), L
 //! the address of the symbol's slot in the procedure linkage table (PLT), R the symbol's offset in its
 //! section, SDA and SDA2 the bases of the small data areas, TP the thread pointer, and DTP the start of
-//! the module's block of thread-local data. The low half of a number is its bits 0 to 15, the high half
+//! the module's block of thread-local data plus 0x8000. The low half of a number is its bits 0 to 15, the high half
 //! its bits 16 to 31; adjusted, it is one more where bit 15 is set, as the low half is read as signed.
 //! A pair in the GOT is the module and the offset by which thread-local data is found. The base of a
 //! symbol is that of its small data area, and a register of its own keeps it.
@@ -164,11 +164,11 @@ pub const R_PPC_EMB_SDA21: u32 = 109;
 pub const R_PPC_EMB_MRKREF: u32 = 110;
 /// S + A less the start of its section, in 2 bytes, signed.
 pub const R_PPC_EMB_RELSEC16: u32 = 111;
-/// The low half of S + A less the start of its section, in 2 bytes.
+/// The low half of a number that is relative to a section, in 2 bytes.
 pub const R_PPC_EMB_RELST_LO: u32 = 112;
-/// The high half of S + A less the start of its section, in 2 bytes.
+/// The high half of a number that is relative to a section, in 2 bytes.
 pub const R_PPC_EMB_RELST_HI: u32 = 113;
-/// The adjusted high half of S + A less the start of its section, in 2 bytes.
+/// The adjusted high half of a number that is relative to a section, in 2 bytes.
 pub const R_PPC_EMB_RELST_HA: u32 = 114;
 /// S in a range of bits of a word, which the addend gives by place and width.
 pub const R_PPC_EMB_BIT_FLD: u32 = 115;

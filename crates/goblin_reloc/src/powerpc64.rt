@@ -6,7 +6,7 @@
 //! which the object is loaded, TOC the value of the TOC pointer, G the offset from it of the symbol's
 //! GOT entry, M that of the GOT entry of the symbol's PLT slot, L the address of that slot, R the
 //! symbol's offset in its section, TP the thread pointer, and DTP the start of the module's block of
-//! thread-local data. The low half of a number is its bits 0 to 15, the high half its bits 16 to 31;
+//! thread-local data plus 0x8000. The low half of a number is its bits 0 to 15, the high half its bits 16 to 31;
 //! adjusted, a part is one more where the part below it is read as negative. A DS form is a load or
 //! store whose displacement has 14 bits, in words. A pair in the GOT is the module and the offset by
 //! which thread-local data is found.

@@ -3,8 +3,8 @@
 //! In the formulas S is the symbol's value, A the addend, P the address of the field, V what the field
 //! held, B the address at which the object is loaded, GOT the address of the global offset table, G the
 //! offset of the symbol's entry in it, GP the value of the global pointer, TP the thread pointer, and
-//! DTP the start of the module's block of thread-local data. An address has 4 or 8 bytes by the file's
-//! class. A pair in the GOT is the module and the offset by which thread-local data is found.
+//! DTP the start of the module's block of thread-local data plus 0x800. An address has 4 or 8 bytes by
+//! the file's class. A pair in the GOT is the module and the offset by which thread-local data is found.
 
 /// Nothing is filled in.
 pub const R_RISCV_NONE: u32 = 0;

@@ -19,6 +19,3 @@ mod x86_64;
 
 pub use laws::name_laws;
 pub use names::r_to_str;
-
-#[cfg(test)]
-mod tests;

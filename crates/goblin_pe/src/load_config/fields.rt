@@ -1,94 +1,20 @@
-//! The fields of a load configuration by their places, a group at a time: Microsoft's PE Format, "Load Configuration
-//! Layout".
+//! The fields of a load configuration by their places: Microsoft's PE Format, "Load Configuration Layout".
 
-ghost use Rattle.std.specs.Prelude.{◌≡◌, ℕ, ◌≤◌, length};
+ghost use Rattle.std.specs.Prelude.{◌≡◌, ◌≤◌, length};
 ghost use Rattle.goblin_pe.specs.LoadConfig.{code_integrity_at, load_config_fields};
-ghost use Rattle.goblin_pe.specs.LoadConfigParts.{start_part, heap_part, guard_part, table_part, later_part};
 
-use crate::load_config::LoadConfigCodeIntegrity;
+use crate::load_config::{LoadConfigCodeIntegrity, LoadConfigDirectory};
 use crate::steps::{is_inside, u16_field, u16_if, u32_field, u32_if};
 use byte_core::le_at;
 
-/// The fields at the front, whose places are the same in files of both widths.
-#[derive(Clone, Copy)]
-pub struct StartFields {
-    pub size: u32,
-    pub time_stamp: Option<u32>,
-    pub major_version: Option<u16>,
-    pub minor_version: Option<u16>,
-    pub global_flags_clear: Option<u32>,
-    pub global_flags_set: Option<u32>,
-    pub critical_section_default_timeout: Option<u32>,
-}
-
-/// The fields of the heap and of the process.
-#[derive(Clone, Copy)]
-pub struct HeapFields {
-    pub de_commit_free_block_threshold: Option<u64>,
-    pub de_commit_total_free_threshold: Option<u64>,
-    pub lock_prefix_table: Option<u64>,
-    pub maximum_allocation_size: Option<u64>,
-    pub virtual_memory_threshold: Option<u64>,
-    pub process_affinity_mask: Option<u64>,
-    pub process_heap_flags: Option<u32>,
-    pub csd_version: Option<u16>,
-    pub dependent_load_flags: Option<u16>,
-}
-
-/// The fields of exception handlers and of control flow guard.
-#[derive(Clone, Copy)]
-pub struct GuardFields {
-    pub edit_list: Option<u64>,
-    pub security_cookie: Option<u64>,
-    pub se_handler_table: Option<u64>,
-    pub se_handler_count: Option<u64>,
-    pub guard_cf_check_function_pointer: Option<u64>,
-    pub guard_cf_dispatch_function_pointer: Option<u64>,
-    pub guard_cf_function_table: Option<u64>,
-    pub guard_cf_function_count: Option<u64>,
-    pub guard_flags: Option<u32>,
-    pub code_integrity: Option<LoadConfigCodeIntegrity>,
-}
-
-/// The fields of tables, of dynamic relocations and of failed returns.
-#[derive(Clone, Copy)]
-pub struct TableFields {
-    pub guard_address_taken_iat_entry_table: Option<u64>,
-    pub guard_address_taken_iat_entry_count: Option<u64>,
-    pub guard_long_jump_target_table: Option<u64>,
-    pub guard_long_jump_target_count: Option<u64>,
-    pub dynamic_value_reloc_table: Option<u64>,
-    pub chpe_metadata_pointer: Option<u64>,
-    pub guard_rf_failure_routine: Option<u64>,
-    pub guard_rf_failure_routine_function_pointer: Option<u64>,
-    pub dynamic_value_reloc_table_offset: Option<u32>,
-    pub dynamic_value_reloc_table_section: Option<u16>,
-    pub reserved2: Option<u16>,
-}
-
-/// The fields that later systems added.
-#[derive(Clone, Copy)]
-pub struct LaterFields {
-    pub guard_rf_verify_stack_pointer_function_pointer: Option<u64>,
-    pub hot_patch_table_offset: Option<u32>,
-    pub reserved3: Option<u32>,
-    pub enclave_configuration_pointer: Option<u64>,
-    pub volatile_metadata_pointer: Option<u64>,
-    pub guard_eh_continuation_table: Option<u64>,
-    pub guard_eh_continuation_count: Option<u64>,
-    pub guard_xfg_check_function_pointer: Option<u64>,
-    pub guard_xfg_dispatch_function_pointer: Option<u64>,
-    pub guard_xfg_table_dispatch_function_pointer: Option<u64>,
-    pub cast_guard_os_determined_failure_mode: Option<u64>,
-    pub guard_memcpy_function_pointer: Option<u64>,
-}
-
+/// The fields in order, where addresses have `w` bytes.
 #[tactic(auto, unfolding(crate::specs::LoadConfig::load_config_fields))]
-pub fn start_fields(bytes: &[u8]) -> StartFields
-    requires { 4 ≤ length bytes.now }
-    ensures { (w : ℕ) → result ≡ start_part (load_config_fields bytes.now w) }
+pub fn directory_fields(bytes: &[u8], w: usize) -> LoadConfigDirectory
+    requires some { 4 ≤ length bytes.now }
+    requires width { w ≤ 8 }
+    ensures { result ≡ load_config_fields bytes.now w }
 {
-    StartFields {
+    LoadConfigDirectory {
         size: u32_field(bytes, 0),
         time_stamp: u32_if(bytes, 4),
         major_version: u16_if(bytes, 8),
@@ -96,15 +22,6 @@ pub fn start_fields(bytes: &[u8]) -> StartFields
         global_flags_clear: u32_if(bytes, 12),
         global_flags_set: u32_if(bytes, 16),
         critical_section_default_timeout: u32_if(bytes, 20),
-    }
-}
-
-#[tactic(auto, unfolding(crate::specs::LoadConfig::load_config_fields))]
-pub fn heap_fields(bytes: &[u8], w: usize) -> HeapFields
-    requires { w ≤ 8 }
-    ensures { result ≡ heap_part (load_config_fields bytes.now w) }
-{
-    HeapFields {
         de_commit_free_block_threshold: le_at(bytes, 24, w),
         de_commit_total_free_threshold: le_at(bytes, 24 + w, w),
         lock_prefix_table: le_at(bytes, 24 + 2 * w, w),
@@ -114,15 +31,6 @@ pub fn heap_fields(bytes: &[u8], w: usize) -> HeapFields
         process_heap_flags: u32_if(bytes, 24 + 6 * w),
         csd_version: u16_if(bytes, 28 + 6 * w),
         dependent_load_flags: u16_if(bytes, 30 + 6 * w),
-    }
-}
-
-#[tactic(auto, unfolding(crate::specs::LoadConfig::load_config_fields))]
-pub fn guard_fields(bytes: &[u8], w: usize) -> GuardFields
-    requires { w ≤ 8 }
-    ensures { result ≡ guard_part (load_config_fields bytes.now w) }
-{
-    GuardFields {
         edit_list: le_at(bytes, 32 + 6 * w, w),
         security_cookie: le_at(bytes, 32 + 7 * w, w),
         se_handler_table: le_at(bytes, 32 + 8 * w, w),
@@ -133,15 +41,6 @@ pub fn guard_fields(bytes: &[u8], w: usize) -> GuardFields
         guard_cf_function_count: le_at(bytes, 32 + 13 * w, w),
         guard_flags: u32_if(bytes, 32 + 14 * w),
         code_integrity: code_integrity(bytes, 36 + 14 * w),
-    }
-}
-
-#[tactic(auto, unfolding(crate::specs::LoadConfig::load_config_fields))]
-pub fn table_fields(bytes: &[u8], w: usize) -> TableFields
-    requires { w ≤ 8 }
-    ensures { result ≡ table_part (load_config_fields bytes.now w) }
-{
-    TableFields {
         guard_address_taken_iat_entry_table: le_at(bytes, 48 + 14 * w, w),
         guard_address_taken_iat_entry_count: le_at(bytes, 48 + 15 * w, w),
         guard_long_jump_target_table: le_at(bytes, 48 + 16 * w, w),
@@ -153,15 +52,6 @@ pub fn table_fields(bytes: &[u8], w: usize) -> TableFields
         dynamic_value_reloc_table_offset: u32_if(bytes, 48 + 22 * w),
         dynamic_value_reloc_table_section: u16_if(bytes, 52 + 22 * w),
         reserved2: u16_if(bytes, 54 + 22 * w),
-    }
-}
-
-#[tactic(auto, unfolding(crate::specs::LoadConfig::load_config_fields))]
-pub fn later_fields(bytes: &[u8], w: usize) -> LaterFields
-    requires { w ≤ 8 }
-    ensures { result ≡ later_part (load_config_fields bytes.now w) }
-{
-    LaterFields {
         guard_rf_verify_stack_pointer_function_pointer: le_at(bytes, 56 + 22 * w, w),
         hot_patch_table_offset: u32_if(bytes, 56 + 23 * w),
         reserved3: u32_if(bytes, 60 + 23 * w),

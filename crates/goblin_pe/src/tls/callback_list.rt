@@ -7,7 +7,7 @@ ghost use Rattle.goblin_pe.specs.CallbackSteps.{after_step};
 ghost use Rattle.goblin_pe.specs.AddressMap.{map_view};
 
 use crate::pe_error::{Case, Error};
-use crate::steps::{address_width, number_at};
+use crate::steps::{address_width, number_or_short};
 use crate::tls::mapping::AddressMap;
 use std::alloc::Global;
 
@@ -67,7 +67,7 @@ fn next_callback(
         ≡ after_step result (callbacks_among (map_view map.now) (numbers_behind bytes.now (address_width is_64) (place + address_width is_64))) }
     ensures inside { OnOk result (place + address_width is_64 ≤ length bytes.now) }
 {
-    match number_at(bytes, place, address_width(is_64)) {
+    match number_or_short(bytes, place, address_width(is_64)) {
         Ok(number) => {
             if number == 0 {
                 return Ok(None);

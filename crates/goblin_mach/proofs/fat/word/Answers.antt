@@ -2,5 +2,5 @@ use Rattle.std.proofs.Common.{arith}
 use Rattle.goblin_mach.proofs.Words.{word_inside}
 use Rattle.goblin_mach.proofs.fat.word.Goals as goal
 
-pub overflow_cast-result : goal.overflow_cast-result
-overflow_cast-result c = omega (arith, word_inside c.args.bytes.now c.args.offset c.in_ok-number.number (λ k. omega (arith, c.type_inv.bytes k)) c.in_ok-number.ensures)
+pub overflow_cast-word : goal.overflow_cast-word
+overflow_cast-word c = omega (arith, word_inside c.args.bytes.now c.args.offset c.in_ok-number.number (λ k. omega (arith, c.type_inv.bytes k)) c.in_ok-number.ensures)

@@ -1,7 +1,7 @@
-//! Offsets of addresses in one section.
+//! Offsets of addresses in one section, and the texts of refusals.
 
-use super::find_offset;
-use crate::section_table::{ParseOptions, SectionTable};
+use goblin_pe::{Case, Error, ParseOptions, SectionTable, find_offset};
+use std::test::Fail;
 
 fn one_section() -> [SectionTable; 1] {
     [SectionTable {
@@ -33,4 +33,19 @@ fn an_alignment_that_is_no_power_of_two_gives_no_offset(rt: HostRuntime) {
         find_offset(12_287, &one_section(), 500, &plain),
         Some(12_287)
     );
+}
+
+#[test]
+fn an_error_tells_its_number(rt: HostRuntime) -> Result<(), Fail> {
+    let text = format!(in rt.alloc(); "{}", Error::Malformed(Case::NoOffset(4096)))?;
+    assert_eq!(rt;
+        text.as_str(),
+        "malformed: no offset for the relative virtual address 0x1000"
+    );
+    let text = format!(in rt.alloc(); "{}", Error::Malformed(Case::SectionRange(3)))?;
+    assert_eq!(rt;
+        text.as_str(),
+        "malformed: section 3 past the end of the file"
+    );
+    Ok(())
 }

@@ -1,10 +1,10 @@
 //! Values from outside: the names of architectures, the table of a small fat file, texts, constants.
 
-use crate::cputype::{
+use goblin_mach::cputype::{
     CPU_SUBTYPE_PENTII_M5, CPU_SUBTYPE_POWERPC_970, CPU_TYPE_POWERPC64, get_arch_from_flag,
     get_arch_name_from_types,
 };
-use crate::{
+use goblin_mach::{
     DYLD_IOS_VERSION_11_0, DYLD_MACOSX_VERSION_10_13, Error, FAT_MAGIC, FAT_MAGIC_64, FatArch,
     MH_CIGAM_64, MultiArch, S_ATTR_PURE_INSTRUCTIONS, S_THREAD_LOCAL_INIT_FUNCTION_POINTERS,
     SECT_BSS, SECTION_ATTRIBUTES, SEG_LINKEDIT, SIZEOF_FAT_ARCH, SIZEOF_HEADER_32, VM_PROT_EXECUTE,

@@ -1,8 +1,6 @@
 //! The CLR data of 128 bytes with one stream.
 
-use super::{ClrData, ClrSectionIterator};
-use crate::pe_error::{Case, Error};
-use crate::section_table::{DataDirectory, ParseOptions};
+use goblin_pe::{Case, ClrData, ClrSectionIterator, DataDirectory, Error, ParseOptions};
 use std::test::Fail;
 
 /// A header at 0 that names 56 bytes of metadata at 72, and in them one stream `#GUID` of 16 bytes.

@@ -1,6 +1,6 @@
 //! Numbers on small bytes.
 
-use crate::{Field, be_at, le_at, push_fields, push_padding, push_zeros, put_le};
+use byte_core::{Field, be_at, le_at, push_fields, push_padding, push_zeros, put_le};
 use std::test::Fail;
 
 #[test]

@@ -1,4 +1,39 @@
-use crate::r_to_str;
+//! Numbers of ELF relocations and their names.
+
+use goblin_reloc::{
+    aarch64, arm, loongarch, mips, openrisc, powerpc, powerpc64, riscv, x86, x86_64,
+};
+use goblin_reloc_names::r_to_str;
+use std::test::Fail;
+
+#[test]
+fn a_constant_stands_at_the_root_and_in_its_module(rt: HostRuntime) -> Result<(), Fail> {
+    let rows = [
+        (goblin_reloc::R_386_PC32, x86::R_386_PC32, 2),
+        (goblin_reloc::R_X86_64_PLT32, x86_64::R_X86_64_PLT32, 4),
+        (
+            goblin_reloc::R_AARCH64_CALL26,
+            aarch64::R_AARCH64_CALL26,
+            283,
+        ),
+        (goblin_reloc::R_ARM_CALL, arm::R_ARM_CALL, 28),
+        (
+            goblin_reloc::R_OR1K_INSN_REL_26,
+            openrisc::R_OR1K_INSN_REL_26,
+            6,
+        ),
+        (goblin_reloc::R_MIPS_JALR, mips::R_MIPS_JALR, 37),
+        (goblin_reloc::R_RISCV_CALL_PLT, riscv::R_RISCV_CALL_PLT, 19),
+        (goblin_reloc::R_PPC_REL24, powerpc::R_PPC_REL24, 10),
+        (goblin_reloc::R_PPC64_TOC, powerpc64::R_PPC64_TOC, 51),
+        (goblin_reloc::R_LARCH_B26, loongarch::R_LARCH_B26, 66),
+    ];
+    for (root, module, number) in rows {
+        assert_eq!(rt; root, number);
+        assert_eq!(rt; module, number);
+    }
+    Ok(())
+}
 
 #[test]
 fn a_number_has_the_name_of_its_machine(rt: HostRuntime) {

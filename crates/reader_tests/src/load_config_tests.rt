@@ -1,7 +1,6 @@
 //! Load configurations of a few bytes.
 
-use super::LoadConfigDirectory;
-use crate::pe_error::{Case, Error};
+use goblin_pe::{Case, Error, LoadConfigDirectory};
 use std::test::Fail;
 
 #[test]

@@ -1,8 +1,6 @@
 //! The ranges of small files.
 
-use super::{ExcludedSections, PE};
-use crate::pe_error::{Case, Error};
-use crate::section_table::SectionTable;
+use goblin_pe::{Case, Error, ExcludedSections, PE, SectionTable};
 use std::test::Fail;
 
 fn section(pointer_to_raw_data: u32, size_of_raw_data: u32) -> SectionTable {

@@ -1,8 +1,6 @@
 //! The thread-local data of 64 bytes.
 
-use super::TlsData;
-use crate::pe_error::Error;
-use crate::section_table::{DataDirectory, ParseOptions};
+use goblin_pe::{DataDirectory, Error, ParseOptions, TlsData};
 use std::alloc::Global;
 use std::test::Fail;
 
