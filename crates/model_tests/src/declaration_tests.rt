@@ -133,9 +133,7 @@ fn data_without_a_name_counts_apart_from_functions(rt: HostRuntime) -> Result<()
 }
 
 #[test]
-fn another_thread_local_mark_is_refused_and_the_linkage_stays(
-    rt: HostRuntime,
-) -> Result<(), Fail> {
+fn another_thread_local_mark_is_refused_and_the_linkage_stays(rt: HostRuntime) -> Result<(), Fail> {
     let alloc = rt.alloc();
     let mut declarations = ModuleDeclarations::new(alloc);
     declarations.declare_data("t", Linkage::Local, false, true)?;

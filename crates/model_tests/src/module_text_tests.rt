@@ -7,7 +7,12 @@ use std::alloc::Global;
 use std::process::Abort;
 use std::test::Fail;
 
-pub(crate) fn prints(rt: &impl Abort, alloc: Global, error: &ModuleError, expected: &str) -> Result<(), Fail> {
+pub(crate) fn prints(
+    rt: &impl Abort,
+    alloc: Global,
+    error: &ModuleError,
+    expected: &str,
+) -> Result<(), Fail> {
     assert_eq!(rt; error.to_string(alloc)?.as_str(), expected);
     Ok(())
 }

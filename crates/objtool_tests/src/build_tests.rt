@@ -1,4 +1,6 @@
-use crate::files::{ANONYMOUS_FILE, EMPTY_FILE, MAIN_FILE, THREE_FILE, WEAK_FILE, is_file, is_front};
+use crate::files::{
+    ANONYMOUS_FILE, EMPTY_FILE, MAIN_FILE, THREE_FILE, WEAK_FILE, is_file, is_front,
+};
 use byte_core::{FailingCalls, MemHost};
 use objtool_run::run;
 use std::alloc::{AllocError, Global};
@@ -165,8 +167,7 @@ fn a_preemptible_function_needs_no_definition(rt: HostRuntime) -> Result<(), Fai
 fn a_zero_byte_of_the_files_name_has_its_place(rt: HostRuntime) -> Result<(), Fail> {
     let alloc = rt.alloc();
     let build = words(alloc, &["build"])?;
-    let text =
-        "[{\"name\":\"a.\\u0000o\",\"arch\":\"x86_64\",\"format\":\"elf\",\"commands\":[]}]";
+    let text = "[{\"name\":\"a.\\u0000o\",\"arch\":\"x86_64\",\"format\":\"elf\",\"commands\":[]}]";
     let mut host = MemHost::new(alloc, text.as_bytes(), NONE, 2000)?;
     assert_eq!(rt; run(alloc, &build, &mut host), 1);
     assert!(rt; host.errors() == b"part 0 start: Backend error: zero byte at 2\n".as_slice());
