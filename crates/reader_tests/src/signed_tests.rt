@@ -50,10 +50,9 @@ fn joined(alloc: Global, pe: &PE) -> Result<Vec<u8>, Fail> {
 }
 
 #[test]
-fn a_file_of_61_bytes_has_seven_ranges_of_47_bytes(rt: HostRuntime) -> Result<(), Fail> {
+fn a_file_of_61_bytes_has_47_signed_bytes(rt: HostRuntime) -> Result<(), Fail> {
     let sections = [section(44, 12), section(32, 12)];
     let pe = PE::new(&BYTES, &sections, Some(places(5)));
-    assert_eq!(rt; pe.authenticode_ranges()?.count(), 7);
     assert!(rt; joined(rt.alloc(), &pe)?.as_slice() == SIGNED.as_slice());
     Ok(())
 }
