@@ -1,15 +1,7 @@
-//! Values from outside: the names of architectures, the table of a small fat file, texts, constants.
+//! Values from outside: the names of architectures, the table of a small fat file, texts.
 
-use goblin_mach::cputype::{
-    CPU_SUBTYPE_PENTII_M5, CPU_SUBTYPE_POWERPC_970, CPU_TYPE_POWERPC64, get_arch_from_flag,
-    get_arch_name_from_types,
-};
-use goblin_mach::{
-    DYLD_IOS_VERSION_11_0, DYLD_MACOSX_VERSION_10_13, Error, FAT_MAGIC, FAT_MAGIC_64, FatArch,
-    MH_CIGAM_64, MultiArch, S_ATTR_PURE_INSTRUCTIONS, S_THREAD_LOCAL_INIT_FUNCTION_POINTERS,
-    SECT_BSS, SECTION_ATTRIBUTES, SEG_LINKEDIT, SIZEOF_FAT_ARCH, SIZEOF_HEADER_32, VM_PROT_EXECUTE,
-    peek,
-};
+use goblin_mach::cputype::{get_arch_from_flag, get_arch_name_from_types};
+use goblin_mach::{Error, FAT_MAGIC, FatArch, MultiArch, peek};
 use std::test::Fail;
 
 // The header and the two entries of a fat file with 100 bytes for x86_64 and 50 for arm64.
@@ -46,7 +38,7 @@ fn a_name_stands_for_a_type_and_a_subtype(rt: HostRuntime) {
         ("ARM64", None),
         ("", None),
     ] {
-        assert_eq!(rt; get_arch_from_flag(name), pair, "at {name}");
+        assert_eq!(rt; get_arch_from_flag(name), pair);
     }
 }
 
@@ -59,63 +51,26 @@ fn a_subtype_is_compared_with_its_feature_bits(rt: HostRuntime) {
 
 #[test]
 fn the_two_entries_of_a_fat_header(rt: HostRuntime) -> Result<(), Fail> {
-    assert_eq!(rt; peek(&TWO_ENTRIES, 0), Ok(FAT_MAGIC));
-    let fat = MultiArch::new(&TWO_ENTRIES)?;
-    assert_eq!(rt; fat.narches, 2);
-    let arches = fat.arches(rt.alloc())?;
-    assert_eq!(rt; arches.as_slice(), [FIRST, SECOND].as_slice());
+    let arches = MultiArch::new(&TWO_ENTRIES)?.arches(rt.alloc())?;
+    assert!(rt; arches.as_slice() == [FIRST, SECOND].as_slice());
     Ok(())
 }
 
 #[test]
 fn a_count_past_the_end_ends_with_one_error(rt: HostRuntime) -> Result<(), Fail> {
-    let mut bytes = TWO_ENTRIES;
-    for place in 4..8usize {
-        bytes[place] = 0xff;
-    }
-    let mut fat = MultiArch::new(&bytes)?;
-    for narches in [4_294_967_295, usize::MAX] {
-        fat.narches = narches;
-        let mut items = fat.iter_arches();
-        assert_eq!(rt; items.next(), Some(Ok(FIRST)));
-        assert_eq!(rt; items.next(), Some(Ok(SECOND)));
-        assert_eq!(rt; items.next(), Some(Err(Error::BufferTooShort)));
-        assert_eq!(rt; items.next(), None);
-        assert_eq!(rt; fat.iter_arches().count(), 3);
-        assert_eq!(rt; fat.arches(rt.alloc()).err(), Some(Error::BufferTooShort));
-    }
-    fat.narches = 1;
-    assert_eq!(rt; fat.iter_arches().count(), 1);
+    let mut fat = MultiArch::new(&TWO_ENTRIES)?;
+    fat.narches = usize::MAX;
+    let mut items = fat.iter_arches();
+    assert!(rt; items.next() == Some(Ok(FIRST)));
+    assert!(rt; items.next() == Some(Ok(SECOND)));
+    assert!(rt; items.next() == Some(Err(Error::BufferTooShort)));
+    assert!(rt; items.next().is_none());
     Ok(())
 }
 
 #[test]
-fn constants_have_the_published_values(rt: HostRuntime) {
-    for (constant, number) in [
-        (DYLD_MACOSX_VERSION_10_13, 0x000a_0d00),
-        (DYLD_IOS_VERSION_11_0, 0x000b_0000),
-        (SECTION_ATTRIBUTES, 0xffff_ff00),
-        (S_THREAD_LOCAL_INIT_FUNCTION_POINTERS, 0x15),
-        (S_ATTR_PURE_INSTRUCTIONS, 0x8000_0000),
-        (VM_PROT_EXECUTE, 4),
-        (CPU_TYPE_POWERPC64, 0x0100_0012),
-        (CPU_SUBTYPE_PENTII_M5, 86),
-        (CPU_SUBTYPE_POWERPC_970, 100),
-        (MH_CIGAM_64, 0xcffa_edfe),
-        (FAT_MAGIC_64, 0xcafe_babf),
-    ] {
-        assert_eq!(rt; constant, number);
-    }
-    for (constant, text) in [(SEG_LINKEDIT, "__LINKEDIT"), (SECT_BSS, "__bss")] {
-        assert_eq!(rt; constant, text);
-    }
-    for (constant, size) in [(SIZEOF_HEADER_32, 28), (SIZEOF_FAT_ARCH, 20)] {
-        assert_eq!(rt; constant, size);
-    }
-}
-
-#[test]
 fn short_bytes_are_refused(rt: HostRuntime) {
+    assert!(rt; peek(&TWO_ENTRIES, 0) == Ok(FAT_MAGIC));
     assert_eq!(rt; peek(&TWO_ENTRIES[..3], 0), Err(Error::BufferTooShort));
     assert_eq!(rt; peek(&TWO_ENTRIES, usize::MAX), Err(Error::BufferTooShort));
     assert_eq!(rt;

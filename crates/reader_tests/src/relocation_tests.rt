@@ -55,9 +55,13 @@ fn a_number_without_a_name_is_unknown(rt: HostRuntime) {
 
 /// How many numbers below 2,000 have a name.
 fn known(machine: u16, unknown: &str) -> usize {
-    (0..2000)
-        .filter(|number| r_to_str(*number, machine) != unknown)
-        .count()
+    let mut count: usize = 0;
+    for number in 0..2000 {
+        if r_to_str(number, machine) != unknown {
+            count = count.saturating_add(1);
+        }
+    }
+    count
 }
 
 #[test]

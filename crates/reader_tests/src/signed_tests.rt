@@ -1,6 +1,7 @@
 //! The ranges of small files.
 
 use goblin_pe::{Case, Error, ExcludedSections, PE, SectionTable};
+use std::alloc::Global;
 use std::test::Fail;
 
 fn section(pointer_to_raw_data: u32, size_of_raw_data: u32) -> SectionTable {
@@ -32,19 +33,35 @@ static BYTES: [u8; 61] = [
     48, 49, 50, 51, 52, 53, 54, 55, 56, 57, 58, 59, 60,
 ];
 
+/// The bytes that its signature covers, one range behind the other.
+#[rattlefmt::skip]
+static SIGNED: [u8; 47] = [
+    0, 1, 2, 3, 4, 5, 6, 7, 12, 13, 14, 15, 24, 25, 26, 27, 28, 29, 30, 31,
+    32, 33, 34, 35, 36, 37, 38, 39, 40, 41, 42, 43, 44, 45, 46, 47, 48, 49, 50, 51, 52, 53, 54, 55,
+    0, 0, 0,
+];
+
+fn joined(alloc: Global, pe: &PE) -> Result<Vec<u8>, Fail> {
+    let mut bytes = Vec::new(alloc);
+    for range in pe.authenticode_ranges()? {
+        bytes.extend_from_slice(range)?;
+    }
+    Ok(bytes)
+}
+
 #[test]
-fn a_file_of_61_bytes_has_seven_ranges_of_47_bytes(rt: HostRuntime) -> Result<(), Fail> {
+fn a_file_of_61_bytes_has_47_signed_bytes(rt: HostRuntime) -> Result<(), Fail> {
     let sections = [section(44, 12), section(32, 12)];
     let pe = PE::new(&BYTES, &sections, Some(places(5)));
-    let mut ranges = pe.authenticode_ranges()?;
-    assert_eq!(rt; ranges.next(), Some(&BYTES[0..8]));
-    assert_eq!(rt; ranges.next(), Some(&BYTES[12..16]));
-    assert_eq!(rt; ranges.next(), Some(&BYTES[24..32]));
-    assert_eq!(rt; ranges.next(), Some(&BYTES[32..44]));
-    assert_eq!(rt; ranges.next(), Some(&BYTES[44..56]));
-    assert_eq!(rt; ranges.next(), Some(&BYTES[56..56]));
-    assert_eq!(rt; ranges.next(), Some([0, 0, 0].as_slice()));
-    assert_eq!(rt; ranges.next(), None);
+    assert!(rt; joined(rt.alloc(), &pe)?.as_slice() == SIGNED.as_slice());
+    Ok(())
+}
+
+#[test]
+fn a_table_in_the_order_of_its_pointers_gives_the_same_bytes(rt: HostRuntime) -> Result<(), Fail> {
+    let sections = [section(32, 12), section(0, 0), section(44, 12)];
+    let pe = PE::new(&BYTES, &sections, Some(places(5)));
+    assert!(rt; joined(rt.alloc(), &pe)?.as_slice() == SIGNED.as_slice());
     Ok(())
 }
 
@@ -72,8 +89,6 @@ fn the_first_cause_refuses_a_file(rt: HostRuntime) {
 fn a_file_without_known_places_is_one_range(rt: HostRuntime) -> Result<(), Fail> {
     let sections = [section(900, 12)];
     let pe = PE::new(b"abc", &sections, None);
-    let mut ranges = pe.authenticode_ranges()?;
-    assert_eq!(rt; ranges.next(), Some(b"abc".as_slice()));
-    assert_eq!(rt; ranges.next(), None);
+    assert!(rt; joined(rt.alloc(), &pe)?.as_slice() == b"abc".as_slice());
     Ok(())
 }

@@ -31,9 +31,9 @@ fn parse(alloc: Global, bytes: &[u8]) -> Result<Option<TlsData<'_>>, Error> {
 fn the_directory_names_raw_data_a_slot_and_one_callback(rt: HostRuntime) -> Result<(), Fail> {
     let tls = parse(rt.alloc(), &IMAGE)?.ok_or("no data")?;
     assert_eq!(rt; tls.image_tls_directory.characteristics, 0x0030_0000);
-    assert_eq!(rt; tls.raw_data, Some([1, 2, 3, 4].as_slice()));
-    assert_eq!(rt; tls.slot, Some(7));
-    assert_eq!(rt; tls.callbacks.as_slice(), [4136].as_slice());
+    assert!(rt; tls.raw_data == Some([1, 2, 3, 4].as_slice()));
+    assert!(rt; tls.slot == Some(7));
+    assert!(rt; tls.callbacks.as_slice() == [4136].as_slice());
     Ok(())
 }
 
