@@ -1,5 +1,6 @@
 -- What a function imports.
-use Rattle.std.specs.Prelude.{ℕ, ◌<◌, ◌-◌, ◌==◌, ◌&&◌, max, Bool, List, [], ◌∷◌, ◌++◌, length, Option, Some, None, unwrap_or}
+use Rattle.std.specs.Vec.{vec_len, vec_capacity}
+use Rattle.std.specs.Prelude.{ℕ, ◌+◌, ◌<◌, ◌≤◌, ◌-◌, ◌==◌, ◌&&◌, max, Bool, List, [], ◌∷◌, ◌++◌, length, Option, Some, None, unwrap_or}
 use Rattle.std.specs.List.{position_from}
 use Rattle.ir_core.specs.declared.function.Function.TheInside.{Inside}
 use Rattle.ir_core.specs.Signature.{SignatureData}
@@ -43,6 +44,14 @@ function_view f =
             global_values = f.room_for_values;
           };
     }
+
+-- the memory of each list has space for the entries and for as many more as there is room for
+abbrev pub HasCapacity : Inside → Type 0
+HasCapacity f =
+    (vec_len f.user_named_funcs + f.room_for_names ≤ vec_capacity f.user_named_funcs)
+    × (vec_len f.signatures + f.room_for_signatures ≤ vec_capacity f.signatures)
+    × (vec_len f.ext_funcs + f.room_for_functions ≤ vec_capacity f.ext_funcs)
+    × (vec_len f.global_values + f.room_for_values ≤ vec_capacity f.global_values)
 
 -- a function that imports nothing, and has no room yet
 abbrev pub empty_function : FunctionData

@@ -26,14 +26,13 @@ pub struct Function {
 }
 
 impl Model for Function {
-    ghost use Rattle.std.specs.Prelude.{◌+◌, ◌≤◌, vec_len, vec_capacity};
-    ghost use Rattle.ir_core.specs.Function.{FunctionData, function_view};
+    ghost use Rattle.ir_core.specs.Function.{FunctionData, function_view, HasCapacity};
 
     ghost Value = { FunctionData };
 
     ghost view = { function_view };
 
-    ghost invariant = { λ f. (vec_len f.user_named_funcs + f.room_for_names ≤ vec_capacity f.user_named_funcs) × (vec_len f.signatures + f.room_for_signatures ≤ vec_capacity f.signatures) × (vec_len f.ext_funcs + f.room_for_functions ≤ vec_capacity f.ext_funcs) × (vec_len f.global_values + f.room_for_values ≤ vec_capacity f.global_values) };
+    ghost invariant = { HasCapacity };
 }
 
 impl Function {
