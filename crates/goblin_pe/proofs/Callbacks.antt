@@ -1,9 +1,9 @@
 -- Callbacks one at a time.
 use Rattle.std.proofs.Common.{◌≡◌, ℕ, suc, ◌+◌, ◌-◌, ◌/◌, ◌<◌, ◌≤◌, Bool, true, false, List, [], ◌∷◌, ◌++◌, length, refl, ap, arith, ◌∙◌, Result, Ok, Err, nat_le, ◌==◌, if◌then◌else◌}
 use Rattle.byte_core.specs.Number.{number_at}
-use Rattle.goblin_pe.specs.declared.pe_error.Error.{Error}
-use Rattle.goblin_pe.specs.declared.pe_error.Error.TheVariants.{BufferTooShort}
-use Rattle.goblin_pe.specs.Steps.{◌>>=◌, number_or_short, address_width}
+use Rattle.pe_core.specs.declared.pe_error.Error.{Error}
+use Rattle.pe_core.specs.declared.pe_error.Error.TheVariants.{BufferTooShort}
+use Rattle.pe_core.specs.Steps.{◌>>=◌, number_or_short, address_width}
 use Rattle.goblin_pe.specs.Tls.{Mapping, in_front, numbers_from, numbers_behind, callback_of, callbacks_among}
 
 -- values in front of an answer's

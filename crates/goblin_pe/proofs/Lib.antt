@@ -1,9 +1,2 @@
-pub mod NumberBounds
-pub mod Texts
-pub mod NextSections
-pub mod RangesLeft
-pub mod AscendingOrder
-pub mod FreshRanges
-pub mod SignedFile
 pub mod Callbacks
 pub mod LoadConfigFront

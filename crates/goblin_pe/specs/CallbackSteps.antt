@@ -1,6 +1,6 @@
 -- Callbacks one at a time.
 use Rattle.std.specs.Prelude.{ℕ, List, [], Option, Some, None, Result, Ok, Err}
-use Rattle.goblin_pe.specs.declared.pe_error.Error.{Error}
+use Rattle.pe_core.specs.declared.pe_error.Error.{Error}
 use Rattle.goblin_pe.specs.Tls.{in_front}
 
 -- what a step and the callbacks behind it give: the callback in front of them, none at the end

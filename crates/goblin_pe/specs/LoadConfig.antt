@@ -2,16 +2,16 @@
 -- follow the affinity mask, in files of both widths, is this project's choice.
 use Rattle.std.specs.Prelude.{ℕ, ◌+◌, ◌*◌, nat_le, Bool, List, length, Option, Some, None, Result, Ok, if◌then◌else◌}
 use Rattle.byte_core.specs.Number.{bytes_at, number_at}
-use Rattle.goblin_pe.specs.declared.section_table.SectionTable.{SectionTable}
-use Rattle.goblin_pe.specs.declared.section_table.DataDirectory.{DataDirectory}
-use Rattle.goblin_pe.specs.declared.section_table.ParseOptions.{ParseOptions}
+use Rattle.pe_core.specs.declared.section_table.SectionTable.{SectionTable}
+use Rattle.pe_core.specs.declared.section_table.DataDirectory.{DataDirectory}
+use Rattle.pe_core.specs.declared.section_table.ParseOptions.{ParseOptions}
 use Rattle.goblin_pe.specs.declared.load_config.LoadConfigCodeIntegrity.{LoadConfigCodeIntegrity}
 use Rattle.goblin_pe.specs.declared.load_config.LoadConfigDirectory.{LoadConfigDirectory}
 use Rattle.goblin_pe.specs.declared.load_config.LoadConfigData.{LoadConfigData}
-use Rattle.goblin_pe.specs.declared.pe_error.Case.TheVariants.{DirectoryRange, TooSmall}
-use Rattle.goblin_pe.specs.declared.pe_error.Error.{Error}
-use Rattle.goblin_pe.specs.Steps.{◌>>=◌, demand, address_width, field_at}
-use Rattle.goblin_pe.specs.FindOffset.{offset_or_refusal}
+use Rattle.pe_core.specs.declared.pe_error.Case.TheVariants.{DirectoryRange, TooSmall}
+use Rattle.pe_core.specs.declared.pe_error.Error.{Error}
+use Rattle.pe_core.specs.Steps.{◌>>=◌, demand, address_width, field_at}
+use Rattle.pe_core.specs.FindOffset.{offset_or_refusal}
 
 -- the code integrity of the 12 bytes at place p, none where they pass the end
 unfoldable pub code_integrity_at : List ℕ → ℕ → Option LoadConfigCodeIntegrity

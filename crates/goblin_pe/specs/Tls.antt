@@ -2,16 +2,16 @@
 use Rattle.std.specs.Prelude.{ℕ, zero, suc, ◌+◌, ◌-◌, ◌*◌, ◌/◌, ◌==◌, ◌&&◌, ◌||◌, nat_le, nat_lt, Bool, List, [], ◌∷◌, length, Option, Some, None, Result, Ok, Err, if◌then◌else◌}
 use Rattle.std.specs.Option.{option_copied, option_and_then}
 use Rattle.byte_core.specs.Number.{bytes_at, number_at}
-use Rattle.goblin_pe.specs.declared.section_table.SectionTable.{SectionTable}
-use Rattle.goblin_pe.specs.declared.section_table.DataDirectory.{DataDirectory}
-use Rattle.goblin_pe.specs.declared.section_table.ParseOptions.{ParseOptions}
+use Rattle.pe_core.specs.declared.section_table.SectionTable.{SectionTable}
+use Rattle.pe_core.specs.declared.section_table.DataDirectory.{DataDirectory}
+use Rattle.pe_core.specs.declared.section_table.ParseOptions.{ParseOptions}
 use Rattle.goblin_pe.specs.declared.tls.directory.ImageTlsDirectory.{ImageTlsDirectory}
 use Rattle.goblin_pe.specs.declared.tls.TlsData.{TlsData}
-use Rattle.goblin_pe.specs.declared.pe_error.Case.TheVariants.{NoOffset, TlsOrder, BelowBase}
-use Rattle.goblin_pe.specs.declared.pe_error.Error.{Error}
-use Rattle.goblin_pe.specs.declared.pe_error.Error.TheVariants.{BufferTooShort}
-use Rattle.goblin_pe.specs.Steps.{◌>>=◌, demand, value_or, within_or_short, address_width, field_at}
-use Rattle.goblin_pe.specs.FindOffset.{offset_of, offset_or_refusal}
+use Rattle.pe_core.specs.declared.pe_error.Case.TheVariants.{NoOffset, TlsOrder, BelowBase}
+use Rattle.pe_core.specs.declared.pe_error.Error.{Error}
+use Rattle.pe_core.specs.declared.pe_error.Error.TheVariants.{BufferTooShort}
+use Rattle.pe_core.specs.Steps.{◌>>=◌, demand, value_or, within_or_short, address_width, field_at}
+use Rattle.pe_core.specs.FindOffset.{offset_of, offset_or_refusal}
 
 -- the fields of a directory at place p, where addresses have w bytes: "The TLS Directory"
 unfoldable pub tls_fields_at : List ℕ → ℕ → ℕ → ImageTlsDirectory

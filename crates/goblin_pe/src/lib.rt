@@ -4,30 +4,24 @@
 //! step that fails.
 #![tactic(auto)]
 
-mod authenticode;
 pub mod characteristic;
-pub mod clr;
 pub mod dll_characteristic;
 mod laws;
 pub mod load_config;
-mod pe_error;
-mod rva;
-mod section_bytes;
-mod section_order;
-mod section_table;
-mod steps;
 pub mod subsystem;
 pub mod tls;
 
-pub use authenticode::{ExcludedSections, ExcludedSectionsIter, PE};
-pub use clr::{
+pub use laws::{constant_laws, load_config_law};
+pub use load_config::{LoadConfigCodeIntegrity, LoadConfigData, LoadConfigDirectory};
+pub use pe_clr::clr::{
     ClrData, ClrSectionIterator, Cor20Header, StorageHeader, StorageSignature, StorageStream,
 };
-pub use laws::{constant_laws, load_config_law, signed_file_law};
-pub use load_config::{LoadConfigCodeIntegrity, LoadConfigData, LoadConfigDirectory};
-pub use pe_error::{Case, Error};
-pub use rva::find_offset;
-pub use section_table::{DataDirectory, ParseOptions, SectionTable};
+pub use pe_clr::{clr, clr_constant_laws};
+pub use pe_core::pe_error::{Case, Error};
+pub use pe_core::rva::find_offset;
+pub use pe_core::section_table::{DataDirectory, ParseOptions, SectionTable};
+pub use pe_signed::authenticode::{ExcludedSections, ExcludedSectionsIter, PE};
+pub use pe_signed::signed_file_law;
 pub use tls::{ImageTlsDirectory, TlsData};
 
 // The bits of the file header's characteristics.
@@ -63,7 +57,7 @@ pub use subsystem::{
 };
 
 // The numbers of the CLR header.
-pub use clr::{
+pub use pe_clr::clr::{
     COMIMAGE_FLAGS_32BITPREFERRED, COMIMAGE_FLAGS_32BITREQUIRED, COMIMAGE_FLAGS_IL_LIBRARY,
     COMIMAGE_FLAGS_ILONLY, COMIMAGE_FLAGS_NATIVE_ENTRYPOINT, COMIMAGE_FLAGS_STRONGNAMESIGNED,
     COMIMAGE_FLAGS_TRACKDEBUGDATA, COR_DELETED_NAME_LENGTH, COR_VERSION_MAJOR,

@@ -2,11 +2,11 @@
 
 mod fields;
 
-use crate::pe_error::{Case, Error};
-use crate::rva::offset_or_refusal;
-use crate::section_table::{DataDirectory, ParseOptions, SectionTable};
-use crate::steps::{address_width, demand, is_inside};
 use fields::directory_fields;
+use pe_core::pe_error::{Case, Error};
+use pe_core::rva::offset_or_refusal;
+use pe_core::section_table::{DataDirectory, ParseOptions, SectionTable};
+use pe_core::steps::{address_width, demand, is_inside};
 
 /// The image checks targets of calls.
 pub const IMAGE_GUARD_CF_INSTRUMENTED: u32 = 0x0000_0100;

@@ -4,12 +4,12 @@ mod callback_list;
 mod directory;
 mod mapping;
 
-use crate::pe_error::Error;
-use crate::section_table::{DataDirectory, ParseOptions, SectionTable};
-use crate::steps::address_width;
 use callback_list::callbacks;
 pub use directory::ImageTlsDirectory;
 use mapping::{AddressMap, raw_data, slot};
+use pe_core::pe_error::Error;
+use pe_core::section_table::{DataDirectory, ParseOptions, SectionTable};
+use pe_core::steps::address_width;
 use std::alloc::Global;
 
 /// Raw data stands anywhere.
@@ -74,7 +74,7 @@ pub struct TlsData<'a> {
 impl<'a> TlsData<'a> {
     ghost use Rattle.std.specs.Prelude.{◌≡◌, true};
     ghost use Rattle.std.specs.Option.{option_map};
-    ghost use Rattle.goblin_pe.specs.Steps.{GivesOrMemory, address_width};
+    ghost use Rattle.pe_core.specs.Steps.{GivesOrMemory, address_width};
     ghost use Rattle.goblin_pe.specs.Tls.{tls_view, tls_of, named_by};
     ghost use Rattle.goblin_pe.specs.AddressMap.{map_view};
 

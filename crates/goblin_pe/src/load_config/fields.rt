@@ -4,8 +4,8 @@ ghost use Rattle.std.specs.Prelude.{◌≡◌, ◌≤◌, length};
 ghost use Rattle.goblin_pe.specs.LoadConfig.{code_integrity_at, load_config_fields};
 
 use crate::load_config::{LoadConfigCodeIntegrity, LoadConfigDirectory};
-use crate::steps::{is_inside, u16_field, u16_if, u32_field, u32_if};
 use byte_core::le_at;
+use pe_core::steps::{is_inside, u16_field, u16_if, u32_field, u32_if};
 
 /// The fields in order, where addresses have `w` bytes.
 #[tactic(auto, unfolding(crate::specs::LoadConfig::load_config_fields))]

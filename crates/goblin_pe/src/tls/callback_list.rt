@@ -1,14 +1,14 @@
 //! The callbacks of a thread-local directory.
 
 ghost use Rattle.std.specs.Prelude.{◌≡◌, ◌+◌, ◌≤◌, length, OnOk};
-ghost use Rattle.goblin_pe.specs.Steps.{GivesOrMemory, address_width};
+ghost use Rattle.pe_core.specs.Steps.{GivesOrMemory, address_width};
 ghost use Rattle.goblin_pe.specs.Tls.{callbacks_of, callbacks_among, numbers_behind};
 ghost use Rattle.goblin_pe.specs.CallbackSteps.{after_step};
 ghost use Rattle.goblin_pe.specs.AddressMap.{map_view};
 
-use crate::pe_error::{Case, Error};
-use crate::steps::{address_width, number_or_short};
 use crate::tls::mapping::AddressMap;
+use pe_core::pe_error::{Case, Error};
+use pe_core::steps::{address_width, number_or_short};
 use std::alloc::Global;
 
 /// The callbacks at an address up to the first zero, where an address is given.

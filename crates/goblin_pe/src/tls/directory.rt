@@ -3,10 +3,10 @@
 ghost use Rattle.std.specs.Prelude.{◌≡◌, ◌≤◌, ◌+◌, ◌*◌, length};
 ghost use Rattle.goblin_pe.specs.Tls.{tls_fields_at};
 
-use crate::pe_error::Error;
-use crate::rva::offset_or_refusal;
-use crate::section_table::{DataDirectory, ParseOptions, SectionTable};
-use crate::steps::{address_width, demand_bytes, number_field, u32_field};
+use pe_core::pe_error::Error;
+use pe_core::rva::offset_or_refusal;
+use pe_core::section_table::{DataDirectory, ParseOptions, SectionTable};
+use pe_core::steps::{address_width, demand_bytes, number_field, u32_field};
 
 /// Where the thread-local data of an image stands. Addresses are those of the image in memory, 0 where there is none.
 #[derive(Clone, Copy, Debug, Default, PartialEq, Eq)]

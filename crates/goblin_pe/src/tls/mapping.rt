@@ -2,14 +2,14 @@
 
 ghost use Rattle.std.specs.Prelude.{◌≡◌};
 ghost use Rattle.std.specs.Option.{option_copied};
-ghost use Rattle.goblin_pe.specs.Steps.{Gives};
+ghost use Rattle.pe_core.specs.Steps.{Gives};
 ghost use Rattle.goblin_pe.specs.Tls.{raw_data_of, slot_of, range_at};
 ghost use Rattle.goblin_pe.specs.AddressMap.{map_view};
 
-use crate::pe_error::{Case, Error};
-use crate::rva::find_offset;
-use crate::section_table::{ParseOptions, SectionTable};
-use crate::steps::{demand, is_inside, u32_if};
+use pe_core::pe_error::{Case, Error};
+use pe_core::rva::find_offset;
+use pe_core::section_table::{ParseOptions, SectionTable};
+use pe_core::steps::{demand, is_inside, u32_if};
 
 /// How addresses of an image in memory lead to offsets of its file.
 #[derive(Clone, Copy)]

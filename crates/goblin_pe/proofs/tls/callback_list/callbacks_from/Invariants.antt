@@ -1,6 +1,6 @@
 -- the callbacks so far stand in front of those behind this place
 use Rattle.std.proofs.Common.{◌≡◌, ◌+◌, ◌-◌, length}
-use Rattle.goblin_pe.specs.Steps.{address_width}
+use Rattle.pe_core.specs.Steps.{address_width}
 use Rattle.goblin_pe.specs.Tls.{callbacks_among, numbers_behind}
 use Rattle.goblin_pe.specs.AddressMap.{map_view}
 use Rattle.goblin_pe.proofs.Callbacks.{all_in_front}

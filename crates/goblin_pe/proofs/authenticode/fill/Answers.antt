@@ -1,6 +1,0 @@
-use Rattle.std.proofs.Common.{refl, arith}
-use Rattle.goblin_pe.proofs.FreshRanges.{fill_some}
-use Rattle.goblin_pe.proofs.authenticode.fill.Goals as goal
-
-pub returns : goal.returns
-returns c = fill_some c.args.len _ _ refl refl (grind (arith, c.if-count-eq0.false))

@@ -1,0 +1,3 @@
+pub mod ConstantRows
+pub mod Steps
+pub mod FindOffset

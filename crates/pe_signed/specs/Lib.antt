@@ -1,0 +1,5 @@
+pub mod SignedRanges
+pub mod SectionOrder
+pub mod NextSection
+pub mod RangesLeft
+pub mod SignedFile

@@ -1,0 +1,10 @@
+//! The bytes of a PE file that its signature covers. The layer above may rely on this: `authenticode_ranges` gives the
+//! ranges of its definition or the first cause against them, and by `signed_file_law` these, joined, are the signed bytes.
+#![tactic(auto)]
+
+pub mod authenticode;
+mod laws;
+mod section_bytes;
+mod section_order;
+
+pub use laws::signed_file_law;
