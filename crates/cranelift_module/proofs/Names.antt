@@ -16,8 +16,9 @@ use Rattle.cranelift_module.specs.declared.identifiers.FuncOrDataId.{FuncOrDataI
 use Rattle.cranelift_module.specs.declared.identifiers.FuncOrDataId.TheVariants.{Func, Data}
 use Rattle.cranelift_module.specs.Rows.{FunctionRow, DataRow}
 use Rattle.cranelift_module.specs.LinkState.{is_function_named, is_data_named, is_same, raised_function, raised_data}
-use Rattle.cranelift_module.specs.Declarations.{FindsNames, IsSound, function_found, data_found, changed_at, numbered}
+use Rattle.cranelift_module.specs.Declarations.{FindsNames, IsSound, function_found, data_found, changed_at, numbered, has_repeat}
 use Rattle.cranelift_module.specs.Refusal.{function_clash, data_clash, changes_signature, changes_tls, incompatible_declaration, incompatible_signature, incompatible_tls, Refusal, refuse_if}
+use Rattle.cranelift_module.proofs.Distinct.{distinct-function, distinct-data, names-anonymous, names-data_anonymous, names-function_changed, names-data_changed}
 use Rattle.cranelift_module.proofs.Places.{position-changed, position-append, find-at, find-none, any-at, any-none, position-below, length-changed}
 use Rattle.ir_core.specs.Signature.{SignatureData, is_same_signature}
 
@@ -63,7 +64,7 @@ position-anonymous is_named rows row name e =
 pushed_few : {A : Type 0} (rows : List A) (row : A) → length rows < 4294967295 → length (rows ++ row ∷ []) ≤ 4294967295
 pushed_few rows row few = simp length-append (omega arith)
 
-same_entries : (names names' : BTreeMap (String Global) FuncOrDataId) (functions : List FunctionRow) (objects : List DataRow)
+pub same_entries : (names names' : BTreeMap (String Global) FuncOrDataId) (functions : List FunctionRow) (objects : List DataRow)
     → tree.IsUnchanged names names' → FindsNames names functions objects → FindsNames names' functions objects
 same_entries names names' functions objects e h =
     record {
@@ -90,9 +91,9 @@ pub IsSound-first : {A E : Type 0} (result : Result A E) (names names' : BTreeMa
     → OnOk result (functions' ≡ functions ++ row ∷ []) → OnErr result (functions' ≡ functions) → OnErr result (tree.IsUnchanged names names') → length functions < 4294967295 → IsSound names functions objects
     → IsSound names' functions' objects
 IsSound-first (Ok a) names names' functions functions' objects name row e none found pushed kept names_kept few h =
-    record { finds = named_function names names' functions functions' objects name row e none found pushed h.finds; few = rw pushed (pushed_few functions row few); few_objects = h.few_objects }
+    record { finds = named_function names names' functions functions' objects name row e none found pushed h.finds; few = rw pushed (pushed_few functions row few); few_objects = h.few_objects; distinct = rw pushed (distinct-function functions objects row name e (sym (h.finds.at_function name) ∙ ap function_found none) (sym (h.finds.at_data name) ∙ ap data_found none) h.distinct) }
 IsSound-first (Err x) names names' functions functions' objects name row e none found pushed kept names_kept few h =
-    record { finds = rw kept (same_entries names names' functions objects names_kept h.finds); few = rw kept h.few; few_objects = h.few_objects }
+    record { finds = rw kept (same_entries names names' functions objects names_kept h.finds); few = rw kept h.few; few_objects = h.few_objects; distinct = rw kept h.distinct }
 
 -- a call that raises the linkage of a function, or leaves all as it was
 pub IsSound-again : {A E : Type 0} (result : Result A E) (names : BTreeMap (String Global) FuncOrDataId) (functions functions' : List FunctionRow) (objects : List DataRow) (k : ℕ) (linkage : Linkage)
@@ -102,6 +103,7 @@ IsSound-again (Ok a) names functions functions' objects k linkage raised kept h 
       finds = record { at_function = λ name. h.finds.at_function name ∙ sym (position-changed (is_function_named name) (raised_function linkage) (λ x. refl) functions k); at_data = h.finds.at_data };
       few = rw (length-changed (raised_function linkage) functions k) h.few;
       few_objects = h.few_objects;
+      distinct = ap has_repeat (names-function_changed functions objects k (raised_function linkage) (λ row. refl)) ∙ h.distinct;
     })
 IsSound-again (Err x) names functions functions' objects k linkage raised kept h = rw kept h
 
@@ -113,6 +115,7 @@ IsSound-anonymous names functions objects row e few h =
       finds = record { at_function = λ name. h.finds.at_function name ∙ position-anonymous is_function_named functions row name (ap (λ n. is_same n name) e); at_data = h.finds.at_data };
       few = pushed_few functions row few;
       few_objects = h.few_objects;
+      distinct = ap has_repeat (names-anonymous functions objects row e) ∙ h.distinct;
     }
 
 -- -- one more data object
@@ -134,9 +137,9 @@ pub IsSound-data_first : {A E : Type 0} (result : Result A E) (names names' : BT
     → OnOk result (objects' ≡ objects ++ row ∷ []) → OnErr result (objects' ≡ objects) → OnErr result (tree.IsUnchanged names names') → length objects < 4294967295 → IsSound names functions objects
     → IsSound names' functions objects'
 IsSound-data_first (Ok a) names names' functions objects objects' name row e none found pushed kept names_kept few h =
-    record { finds = named_data names names' functions objects objects' name row e none found pushed h.finds; few = h.few; few_objects = rw pushed (pushed_few objects row few) }
+    record { finds = named_data names names' functions objects objects' name row e none found pushed h.finds; few = h.few; few_objects = rw pushed (pushed_few objects row few); distinct = rw pushed (distinct-data functions objects row name e (sym (h.finds.at_function name) ∙ ap function_found none) (sym (h.finds.at_data name) ∙ ap data_found none) h.distinct) }
 IsSound-data_first (Err x) names names' functions objects objects' name row e none found pushed kept names_kept few h =
-    record { finds = rw kept (same_entries names names' functions objects names_kept h.finds); few = h.few; few_objects = rw kept h.few_objects }
+    record { finds = rw kept (same_entries names names' functions objects names_kept h.finds); few = h.few; few_objects = rw kept h.few_objects; distinct = rw kept h.distinct }
 
 -- a call that raises the marks of a data object, or leaves all as it was
 pub IsSound-data_again : {A E : Type 0} (result : Result A E) (names : BTreeMap (String Global) FuncOrDataId) (functions : List FunctionRow) (objects objects' : List DataRow) (k : ℕ) (linkage : Linkage) (writable : Bool)
@@ -146,6 +149,7 @@ IsSound-data_again (Ok a) names functions objects objects' k linkage writable ra
       finds = record { at_function = h.finds.at_function; at_data = λ name. h.finds.at_data name ∙ sym (position-changed (is_data_named name) (raised_data linkage writable) (λ x. refl) objects k) };
       few = h.few;
       few_objects = rw (length-changed (raised_data linkage writable) objects k) h.few_objects;
+      distinct = ap has_repeat (names-data_changed functions objects k (raised_data linkage writable) (λ row. refl)) ∙ h.distinct;
     })
 IsSound-data_again (Err x) names functions objects objects' k linkage writable raised kept h = rw kept h
 
@@ -157,6 +161,7 @@ IsSound-data_anonymous names functions objects row e few h =
       finds = record { at_function = h.finds.at_function; at_data = λ name. h.finds.at_data name ∙ position-anonymous is_data_named objects row name (ap (λ n. is_same n name) e) };
       few = h.few;
       few_objects = pushed_few objects row few;
+      distinct = ap has_repeat (names-data_anonymous functions objects row e) ∙ h.distinct;
     }
 
 -- -- what a name that was looked up says of the lists

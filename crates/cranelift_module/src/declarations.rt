@@ -9,11 +9,13 @@ ghost use Rattle.cranelift_module.specs.LinkState.{is_function_named, is_data_na
 ghost use Rattle.cranelift_module.specs.Declarations.{changed_at, function_found, data_found, numbered};
 ghost use Rattle.cranelift_module.specs.Refusal.{Tells, changes_signature, changes_tls, function_clash, data_clash};
 
+use crate::declaration_json::{declarations_value, functions_at, names_of, objects_at, version_of};
 use crate::{
     DataDeclaration, DataId, DataObjects, FuncId, FuncOrDataId, FunctionDeclaration, Functions,
-    Linkage, ModuleError, ModuleRelocTarget, ModuleResult,
+    JsonCause, Linkage, ModuleError, ModuleRelocTarget, ModuleResult,
 };
 use ir_core::Signature;
+use serde_json::Value;
 use std::alloc::{AllocError, Global};
 use std::collections::BTreeMap;
 use std::marker::Model;
@@ -38,7 +40,10 @@ impl Model for ModuleDeclarations {
 }
 
 impl ModuleDeclarations {
+    ghost use Rattle.std.specs.Prelude.{Ok};
+    ghost use Rattle.serde_json.specs.View.{view};
     ghost use Rattle.cranelift_module.specs.Declarations.{declared_under};
+    ghost use Rattle.cranelift_module.specs.DeclarationJson.{value_of, from_json, Reads};
     ghost use Rattle.cranelift_module.specs.Texts.{IsUser, is_function_target};
 
     /// No declarations.
@@ -51,6 +56,45 @@ impl ModuleDeclarations {
             functions: Vec::new(alloc),
             objects: Vec::new(alloc),
         }
+    }
+
+    /// The JSON value that stands for these declarations, which `from_value` reads as these declarations.
+    ///
+    /// The form is closed: an object with the keys `_version_marker`, whose text is that of `VERSION`,
+    /// `functions` and `data_objects`, which are lists. A function is an object with the keys `name` (a
+    /// text or null), `linkage` and `signature`; a signature one with `call_conv`, `params` and `returns`;
+    /// a parameter one with `type`, `extension` and `purpose`. A data object is an object with the keys
+    /// `name` (a text or null), `linkage`, `writable` and `tls` (truth values). Each linkage, type,
+    /// extension, purpose and calling convention is the name of its variant.
+    pub fn to_value(&self) -> Result<Value, AllocError>
+        ensures value { IfOk result (λ v. view v ≡ value_of self.now) }
+        ensures reads_back { IfOk result (λ v. from_json (view v) ≡ Ok self.now) }
+    {
+        let value = declarations_value(self.alloc, &self.functions, &self.objects)?;
+        Ok(value)
+    }
+
+    /// The declarations that a JSON value stands for in the form of `to_value`, or the first cause why
+    /// it stands for none. The causes are looked for in this order: the value is no object, the marker of
+    /// the version, the functions, the data objects, and a name that stands twice among all of them.
+    /// Other keys of the outer object are passed over; an inner object has exactly its keys.
+    #[tactic(auto, unfolding(crate::specs::DeclarationJson::from_json))]
+    pub fn from_value(alloc: Global, value: &Value) -> Result<Self, JsonCause>
+        ensures { Reads (λ d. d) result (from_json (view value.now)) }
+    {
+        if !value.is_object() {
+            return Err(JsonCause::WrongShape);
+        }
+        version_of(value)?;
+        let functions = functions_at(alloc, value)?;
+        let objects = objects_at(alloc, value)?;
+        let names = names_of(alloc, &functions, &objects)?;
+        Ok(ModuleDeclarations {
+            alloc,
+            names,
+            functions,
+            objects,
+        })
     }
 
     /// What is declared under a name.

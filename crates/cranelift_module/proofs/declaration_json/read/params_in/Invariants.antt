@@ -1,0 +1,10 @@
+use Rattle.std.proofs.Common.{◌≡◌, drop, map}
+use Rattle.serde_json.specs.View.{items_view}
+use Rattle.cranelift_module.specs.JsonForm.{each_of}
+use Rattle.cranelift_module.specs.DeclarationForm.{param_of}
+use Rattle.cranelift_module.proofs.EachOf.{with_front}
+use Rattle.cranelift_module.proofs.declaration_json.read.params_in.Given as goal
+
+-- the parameters so far, and those of the rest, are all parameters
+abbrev pub invariant-loop-value : goal.invariant-loop-value
+invariant-loop-value l = each_of param_of (items_view l.values) ≡ with_front (map (λ x. x) l.params.items) (each_of param_of (items_view (drop l.value-index l.values)))
