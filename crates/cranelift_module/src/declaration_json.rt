@@ -14,6 +14,3 @@ pub use laws::json_laws;
 pub(crate) use names::names_of;
 pub(crate) use read::{functions_at, objects_at, version_of};
 pub(crate) use write::declarations_value;
-
-#[cfg(test)]
-mod tests;

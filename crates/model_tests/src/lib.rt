@@ -6,6 +6,8 @@ mod declaration_tests;
 #[cfg(test)]
 mod ir_tests;
 #[cfg(test)]
+mod json_tests;
+#[cfg(test)]
 mod module_text_tests;
 #[cfg(test)]
 mod object_tests;

@@ -1,4 +1,4 @@
-use crate::{DataId, FuncId, FuncOrDataId, JsonCause, ModuleDeclarations};
+use cranelift_module::{DataId, FuncId, FuncOrDataId, JsonCause, ModuleDeclarations};
 use serde_json::Value;
 use std::alloc::Global;
 use std::test::Fail;
