@@ -1,15 +1,15 @@
 -- The ends of a run, from what its steps say.
-use Rattle.std.proofs.Common.{◌≡◌, ◌≢◌, ◌↔◌, ℕ, zero, suc, ◌+◌, ◌-◌, ◌<◌, ◌≤◌, ◌⊎◌, inl, inr, ⊎_elim, List, length, max, min, Option, Some, None, IfSome, Result, Ok, Err, string_bytes, refl, ap, sym, subst, ◌∙◌, arith}
+use Rattle.std.proofs.Common.{◌≡◌, ◌≢◌, ◌↔◌, ℕ, zero, suc, ◌+◌, ◌-◌, ◌<◌, ◌≤◌, ◌⊎◌, inl, inr, ⊎_elim, List, length, max, min, Option, Some, None, IfSome, Result, Ok, Err, String, Global, string_bytes, refl, ap, sym, subst, ◌∙◌, arith}
 use Rattle.byte_core.specs.Count.{Rose, risen, last_count}
 use Rattle.byte_core.specs.Outside.{Outside, ChangesInput, ChangesOutput, ChangesErrors, Appends, AppendsFront}
 use Rattle.objtool_run.specs.Fault.{code_of}
 use Rattle.objtool_run.specs.Words.{request_of}
-use Rattle.objtool_run.specs.Run.{input_limit, IsOutput, IsRefused, IsUnread, IsOther, IsTaken, Explains, Judges, IsAnswerable, IsJudged, IsOfResponse}
+use Rattle.objtool_run.specs.Run.{input_limit, IsOutput, IsRefused, IsUnread, IsOther, IsTaken, IsLong, Explains, Judges, IsAnswerable, IsJudged, IsOfResponse}
 use Rattle.objtool_run.specs.Ends.{Answers, AnswersFront, Ends}
 use Rattle.objtool_run.specs.declared.fault.Fault.{Fault}
 use Rattle.objtool_run.specs.declared.fault.Fault.TheVariants.{Refused, BadWords, ReadFailed, WriteFailed, OutOfMemory, NotUnderstood, TooLong, NotYet}
 use Rattle.objtool_run.specs.declared.words.Request.{Request}
-use Rattle.objtool_run.specs.declared.words.Request.TheVariants.{Build}
+use Rattle.objtool_run.specs.declared.words.Request.TheVariants.{Build, Names, Ask}
 use Rattle.objtool_run.proofs.Judging.{judges_output, judges_fault, valid_ends, not_long}
 
 -- words that name no request
@@ -40,7 +40,7 @@ record Known (line : List (List ℕ)) (r : Request) (old new : Outside) (status 
   reading : status ≡ 3 → Rose old.read_faults new.read_faults
   writing : status ≡ 4 → Rose old.write_faults new.write_faults
   too_long : new.taken < last_count → ((status ≡ 7) ↔ (input_limit < new.taken - old.taken))
-  long : status ≡ 7 → IfSome old.input (λ input. input_limit < length input)
+  long : status ≡ 7 → IsLong r old.input
   at_most : new.taken ≤ risen old.taken (input_limit + 1)
   done : status ≡ 0 → Answers r old new
   front : status ≡ 4 → AnswersFront r old new
@@ -73,7 +73,7 @@ ends_known line r old new status k = record {
   reading = k.reading;
   writing = k.writing;
   too_long = k.too_long;
-  long = k.long;
+  long = λ h. rw k.is (k.long h);
   at_most = k.at_most;
   done = λ h. rw k.is (k.done h);
   front = λ h. rw k.is (k.front h);
@@ -162,13 +162,23 @@ of_code P NotYet h p = ((λ e. absurd (omega (arith, e))), (λ e. absurd (omega 
 
 explained_unread : (r : Request) (input : Option (List ℕ)) → Explains r input NotUnderstood → IsUnread r input
 explained_unread Build input h = h
+explained_unread (Names machine number) input h = absurd h
+explained_unread (Ask q) input h = h
 
 explained_other : (r : Request) (input : Option (List ℕ)) → Explains r input NotYet → IsOther r input
 explained_other Build input h = h
+explained_other (Names machine number) input h = absurd h
+explained_other (Ask q) input h = h
+
+-- a refusal that is told is one that the request's input has
+pub explained_refused : (r : Request) (input : Option (List ℕ)) (text : String Global) → Explains r input (Refused text) → IsRefused r input (string_bytes text)
+explained_refused Build input text h = h
+explained_refused (Names machine number) input text h = absurd h
+explained_refused (Ask q) input text h = h
 
 -- the request has a fault before its output is written
 pub ends_fault : (line : List (List ℕ)) (r : Request) (old new : Outside) (fault : Fault) → request_of line ≡ Some r → IsOfResponse fault → Explains r old.input fault → (IsJudged fault → IsTaken r new)
-    → (fault ≡ ReadFailed → Rose old.read_faults new.read_faults) → (new.taken < last_count → ((fault ≡ TooLong) ↔ (input_limit < new.taken - old.taken))) → (fault ≡ TooLong → IfSome old.input (λ input. input_limit < length input))
+    → (fault ≡ ReadFailed → Rose old.read_faults new.read_faults) → (new.taken < last_count → ((fault ≡ TooLong) ↔ (input_limit < new.taken - old.taken))) → (fault ≡ TooLong → IsLong r old.input)
     → new.taken ≤ risen old.taken (input_limit + 1) → ChangesInput old new → Ends line old new (code_of fault)
 unfolding IsWhole
 ends_fault line r old new fault is of explained taken reading too_long long at_most others =
@@ -198,6 +208,8 @@ ends_fault line r old new fault is of explained taken reading too_long long at_m
 
 taken_kept : (r : Request) (mid new : Outside) → new.input ≡ mid.input → IsTaken r mid → IsTaken r new
 taken_kept Build mid new e h = rw e h
+taken_kept (Names machine number) mid new e h = tt
+taken_kept (Ask q) mid new e h = rw e h
 
 -- the output was written whole
 pub ends_written : (line : List (List ℕ)) (r : Request) (old mid new : Outside) (text : List ℕ) → request_of line ≡ Some r → IsOutput r old.input text → IsTaken r mid

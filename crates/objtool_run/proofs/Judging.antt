@@ -1,16 +1,19 @@
 -- What each end of a run says of its input.
-use Rattle.std.proofs.Common.{◌≡◌, ◌≢◌, ◌↔◌, ℕ, ◌+◌, ◌-◌, ◌<◌, ◌≤◌, ◌⊎◌, inl, inr, ⊎_elim, List, length, Option, Some, None, IfSome, refl, ap, sym, subst, ◌∙◌, arith}
+use Rattle.std.proofs.Common.{◌≡◌, ◌≢◌, ◌↔◌, ℕ, ◌+◌, ◌-◌, ◌<◌, ◌≤◌, ◌⊎◌, inl, inr, ⊎_elim, List, length, Option, Some, None, IfSome, string_bytes, refl, ap, sym, subst, ◌∙◌, arith}
 use Rattle.byte_core.specs.Count.{Rose, risen, last_count}
 use Rattle.byte_core.specs.Outside.{Outside, ChangesInput, ChangesOutput, ChangesErrors, Appends, AppendsFront}
 use Rattle.serde_json.specs.Data.{Data}
 use Rattle.image_build.specs.Built.{BuildPart, BuildRefusal, build_cause}
 use Rattle.objtool_run.specs.Fault.{code_of}
 use Rattle.objtool_run.specs.Script.{HasJson, HasNoJson, HasOtherForm, StandsFor}
-use Rattle.objtool_run.specs.Run.{input_limit, IsOutput, IsRefused, IsUnread, IsOther, IsTaken, Explains, ExplainsBuild, Judges, JudgesBuild, IsValid, IsAnswerable, IsJudged, IsOfResponse}
+use Rattle.objtool_run.specs.Run.{input_limit, IsOutput, IsRefused, IsUnread, IsOther, IsTaken, IsLong, Explains, ExplainsBuild, Judges, JudgesBuild, IsValid, IsAnswerable, IsJudged, IsOfResponse}
 use Rattle.objtool_run.specs.Ends.{Answers, AnswersFront, Ends, Tells, Refuses}
 use Rattle.objtool_run.specs.Words.{request_of}
 use Rattle.objtool_run.specs.declared.words.Request.{Request}
-use Rattle.objtool_run.specs.declared.words.Request.TheVariants.{Build}
+use Rattle.objtool_run.specs.declared.words.Request.TheVariants.{Build, Names, Ask}
+use Rattle.objtool_run.specs.declared.words.Query.{Query}
+use Rattle.objtool_run.specs.Query.{Reply, told, refusal, reply_of, IsTold, IsRefusedQuery, IsUnreadQuery, ExplainsQuery, JudgesQuery, IsAnswered, IsToldLine, IsRefusalLine}
+use Rattle.objtool_run.specs.Fault.{line}
 use Rattle.objtool_run.specs.declared.fault.Fault.{Fault}
 use Rattle.objtool_run.specs.declared.fault.Fault.TheVariants.{Refused, BadWords, ReadFailed, WriteFailed, OutOfMemory, NotUnderstood, TooLong, NotYet}
 
@@ -60,16 +63,73 @@ judges_other input other = record {
   valid = λ parts stands cause. absurd (not_other input parts stands other);
 }
 
+-- -- queries
+
+told_is : (text : List ℕ) (o : Option Reply) → IsToldLine text o → (t : List ℕ) × (o ≡ Some (told t))
+told_is text None h = absurd h
+told_is text (Some (told t)) h = (t, refl)
+told_is text (Some (refusal t)) h = absurd h
+
+refusal_is : (text : List ℕ) (o : Option Reply) → IsRefusalLine text o → (t : List ℕ) × (o ≡ Some (refusal t))
+refusal_is text None h = absurd h
+refusal_is text (Some (told t)) h = absurd h
+refusal_is text (Some (refusal t)) h = (t, refl)
+
+reply_same : (q : Query) (b : List ℕ) (d e : Data) (o : Option Reply) → HasJson b d → HasJson b e → reply_of q d ≡ o → reply_of q e ≡ o
+reply_same q b d e o h k r = ap (reply_of q) (sym (one_value b d e h k)) ∙ r
+
+judges_told : (q : Query) (input : List ℕ) (d : Data) (t : List ℕ) (status : ℕ) → HasJson input d → reply_of q d ≡ Some (told t) → (status ≡ 0) ⊎ (status ≡ 4) → JudgesQuery q input status
+judges_told q input d t status json reply ends = record {
+  unread = λ none. let z : Some (told t) ≡ None = sym reply ∙ none d json in absurd (cc);
+  refused = λ e s also other. let z : Some (told t) ≡ Some (refusal s) = sym (reply_same q input d e (Some (told t)) json also reply) ∙ other in absurd (cc);
+  told = λ e s also other. ends;
+}
+
+judges_refusal : (q : Query) (input : List ℕ) (d : Data) (t : List ℕ) → HasJson input d → reply_of q d ≡ Some (refusal t) → JudgesQuery q input 1
+judges_refusal q input d t json reply = record {
+  unread = λ none. let z : Some (refusal t) ≡ None = sym reply ∙ none d json in absurd (cc);
+  refused = λ e s also other. refl;
+  told = λ e s also other. let z : Some (refusal t) ≡ Some (told s) = sym (reply_same q input d e (Some (refusal t)) json also reply) ∙ other in absurd (cc);
+}
+
+judges_unread_query : (q : Query) (input : List ℕ) → IsUnreadQuery q input → JudgesQuery q input 6
+judges_unread_query q input none = record {
+  unread = λ h. refl;
+  refused = λ d t json reply. let z : Some (refusal t) ≡ None = sym reply ∙ none d json in absurd (cc);
+  told = λ d t json reply. let z : Some (told t) ≡ None = sym reply ∙ none d json in absurd (cc);
+}
+
 if_known : (P Q : List ℕ → Type 0) → ((input : List ℕ) → P input → Q input) → (o : Option (List ℕ)) → IfSome o P → IfSome o Q
 if_known P Q f None h = tt
 if_known P Q f (Some x) h = f x h
 
 -- a request that has an output is judged by its writing
 pub judges_output : (r : Request) (input : Option (List ℕ)) (text : List ℕ) (status : ℕ) → IsOutput r input text → (status ≡ 0) ⊎ (status ≡ 4) → Judges r input status
+judges_output (Names machine number) input text status h ends = ends
+judges_output (Ask q) input text status h ends =
+    if_known (λ known. IsTold q known text) (λ known. JudgesQuery q known status) (λ known a. let is = told_is text (reply_of q a.value) a.line_is in judges_told q known a.value is.0 status a.json is.1 ends) input h
 judges_output Build input text status h ends = if_known _ (λ known. JudgesBuild known status) (λ known a. judges_valid known a.parts status a.stands a.valid ends) input h
 
 -- a request with a fault that its input has
 pub judges_fault : (r : Request) (input : Option (List ℕ)) (fault : Fault) → IsJudged fault → Explains r input fault → Judges r input (code_of fault)
+judges_fault (Ask q) input (Refused text) j h =
+    if_known (λ known. IsRefusedQuery q known (string_bytes text)) (λ known. JudgesQuery q known 1) (λ known a. let is = refusal_is (string_bytes text) (reply_of q a.value) a.line_is in judges_refusal q known a.value is.0 a.json is.1) input h
+judges_fault (Ask q) input BadWords j h = absurd j
+judges_fault (Ask q) input ReadFailed j h = absurd j
+judges_fault (Ask q) input WriteFailed j h = absurd j
+judges_fault (Ask q) input OutOfMemory j h = absurd j
+judges_fault (Ask q) input NotUnderstood j h = if_known (λ known. IsUnreadQuery q known) (λ known. JudgesQuery q known 6) (λ known none. judges_unread_query q known none) input h
+judges_fault (Ask q) input TooLong j h = absurd j
+judges_fault (Ask q) None NotYet j h = tt
+judges_fault (Ask q) (Some known) NotYet j h = absurd h
+judges_fault (Names machine number) input (Refused text) j h = absurd h
+judges_fault (Names machine number) input BadWords j h = absurd j
+judges_fault (Names machine number) input ReadFailed j h = absurd j
+judges_fault (Names machine number) input WriteFailed j h = absurd j
+judges_fault (Names machine number) input OutOfMemory j h = absurd j
+judges_fault (Names machine number) input NotUnderstood j h = absurd h
+judges_fault (Names machine number) input TooLong j h = absurd j
+judges_fault (Names machine number) input NotYet j h = absurd h
 judges_fault Build input (Refused text) j h = if_known _ (λ known. JudgesBuild known 1) (λ known a. judges_refused known a.parts a.refusal a.stands a.refused) input h
 judges_fault Build input BadWords j h = absurd j
 judges_fault Build input ReadFailed j h = absurd j
@@ -81,9 +141,15 @@ judges_fault Build input NotYet j h = if_known HasOtherForm (λ known. JudgesBui
 
 -- what nothing refuses is done or fails at its writing
 pub valid_ends : (r : Request) (input : Option (List ℕ)) (status : ℕ) → IsAnswerable r input → Judges r input status → (status ≡ 0) ⊎ (status ≡ 4)
+valid_ends (Names machine number) input status v j = j
+valid_ends (Ask q) None status v j = absurd v
+valid_ends (Ask q) (Some input) status v j = j.told v.0.value v.0.text v.0.json v.0.reply
 valid_ends Build None status v j = absurd v
 valid_ends Build (Some input) status v j = j.valid v.0.parts v.0.stands v.0.valid
 
-pub not_long : (r : Request) (input : Option (List ℕ)) → IsAnswerable r input → IfSome input (λ known. input_limit < length known) → ⊥
+pub not_long : (r : Request) (input : Option (List ℕ)) → IsAnswerable r input → IsLong r input → ⊥
+not_long (Names machine number) input v h = h
+not_long (Ask q) None v h = v
+not_long (Ask q) (Some input) v h = let low = v.1 in omega (arith, h)
 not_long Build None v h = v
 not_long Build (Some input) v h = let low = v.1 in omega (arith, h)

@@ -4,7 +4,7 @@ use Rattle.byte_core.specs.Count.{Rose, risen, last_count}
 use Rattle.byte_core.specs.Outside.{Outside, Appends, AppendsFront}
 use Rattle.objtool_run.specs.Fault.{code_of}
 use Rattle.objtool_run.specs.Words.{request_of}
-use Rattle.objtool_run.specs.Run.{input_limit, IsOutput, IsRefused, IsUnread, IsOther, IsTaken, Judges, IsAnswerable}
+use Rattle.objtool_run.specs.Run.{input_limit, IsOutput, IsRefused, IsUnread, IsOther, IsTaken, IsLong, Judges, IsAnswerable}
 use Rattle.objtool_run.specs.declared.fault.Fault.{Fault}
 use Rattle.objtool_run.specs.declared.words.Request.{Request}
 
@@ -45,7 +45,7 @@ pub record Ends (line : List (List ℕ)) (old new : Outside) (status : ℕ) : Ty
   pub reading : status ≡ 3 → Rose old.read_faults new.read_faults
   pub writing : status ≡ 4 → Rose old.write_faults new.write_faults
   pub too_long : new.taken < last_count → ((status ≡ 7) ↔ (input_limit < new.taken - old.taken))
-  pub long : status ≡ 7 → IfSome old.input (λ input. input_limit < length input)
+  pub long : status ≡ 7 → IfSome (request_of line) (λ request. IsLong request old.input)
   pub at_most : new.taken ≤ risen old.taken (input_limit + 1)
   pub done : status ≡ 0 → IfSome (request_of line) (λ request. Answers request old new)
   pub front : status ≡ 4 → IfSome (request_of line) (λ request. AnswersFront request old new)

@@ -3,5 +3,6 @@ pub mod Fault
 pub mod Form
 pub mod SignatureForm
 pub mod Script
+pub mod Query
 pub mod Run
 pub mod Ends

@@ -9,7 +9,9 @@ use Rattle.image_build.specs.Built.{BuildPart, Built, BuildRefusal, TellsBuild, 
 use Rattle.image_build.specs.Texts.{build_text}
 use Rattle.objtool_run.specs.Fault.{line}
 use Rattle.objtool_run.specs.declared.words.Request.{Request}
-use Rattle.objtool_run.specs.declared.words.Request.TheVariants.{Build}
+use Rattle.objtool_run.specs.declared.words.Request.TheVariants.{Build, Names, Ask}
+use Rattle.objtool_run.specs.Query.{IsTold, IsRefusedQuery, IsUnreadQuery, ExplainsQuery, JudgesQuery, IsAnswered}
+use Rattle.goblin_reloc_names.specs.Names.{relocation_name}
 use Rattle.objtool_run.specs.Script.{HasNoJson, HasOtherForm, StandsFor}
 use Rattle.objtool_run.specs.declared.fault.Fault.{Fault}
 use Rattle.objtool_run.specs.declared.fault.Fault.TheVariants.{Refused, BadWords, ReadFailed, WriteFailed, OutOfMemory, NotUnderstood, TooLong, NotYet}
@@ -105,30 +107,61 @@ pub record JudgesBuild (input : List ℕ) (status : ℕ) : Type 0 where
 -- the output that a request asks for
 abbrev pub IsOutput : Request → Option (List ℕ) → List ℕ → Type 0
 IsOutput Build input text = IfSome input (λ known. IsAnswer known text)
+IsOutput (Names machine number) input text = text ≡ line (relocation_name number machine)
+IsOutput (Ask query) input text = IfSome input (λ known. IsTold query known text)
 
 -- the text is the refusal that the request's input has
 abbrev pub IsRefused : Request → Option (List ℕ) → List ℕ → Type 0
 IsRefused Build input text = IfSome input (λ known. IsRefusal known text)
+IsRefused (Names machine number) input text = ⊥
+IsRefused (Ask query) input text = IfSome input (λ known. IsRefusedQuery query known text)
 
--- the input has no reading
+-- the input has no reading, or none of the request's form
 abbrev pub IsUnread : Request → Option (List ℕ) → Type 0
 IsUnread Build input = IfSome input HasNoJson
+IsUnread (Names machine number) input = ⊥
+IsUnread (Ask query) input = IfSome input (λ known. IsUnreadQuery query known)
 
 -- the input has a reading of another form than is built so far
 abbrev pub IsOther : Request → Option (List ℕ) → Type 0
 IsOther Build input = IfSome input HasOtherForm
+IsOther (Names machine number) input = ⊥
+IsOther (Ask query) input = IfSome input (λ known. ⊥)
+
+-- the input is longer than its limit
+abbrev pub IsLong : Request → Option (List ℕ) → Type 0
+IsLong Build input = IfSome input (λ known. input_limit < length known)
+IsLong (Names machine number) input = ⊥
+IsLong (Ask query) input = IfSome input (λ known. input_limit < length known)
+
+-- the faults of a request without input, which no library refuses: those of the words, of writing and of memory
+abbrev pub IsPlainFault : Fault → Type 0
+IsPlainFault (Refused text) = ⊥
+IsPlainFault BadWords = Unit {0}
+IsPlainFault ReadFailed = ⊥
+IsPlainFault WriteFailed = Unit {0}
+IsPlainFault OutOfMemory = Unit {0}
+IsPlainFault NotUnderstood = ⊥
+IsPlainFault TooLong = ⊥
+IsPlainFault NotYet = ⊥
 
 -- what a fault says of the input of a request
 abbrev pub Explains : Request → Option (List ℕ) → Fault → Type 0
 Explains Build input fault = IfSome input (λ known. ExplainsBuild known fault)
+Explains (Names machine number) input fault = IsPlainFault fault
+Explains (Ask query) input fault = IfSome input (λ known. ExplainsQuery query known fault)
 
--- the input of the request was taken to its end
+-- the input of the request, where it has one, was taken to its end
 abbrev pub IsTaken : Request → Outside → Type 0
 IsTaken Build now = IsAtEnd now
+IsTaken (Names machine number) now = Unit {0}
+IsTaken (Ask query) now = IsAtEnd now
 
 -- how a request may end, apart from failed reads, want of memory and the limit of its input's length
 abbrev pub Judges : Request → Option (List ℕ) → ℕ → Type 0
 Judges Build input status = IfSome input (λ known. JudgesBuild known status)
+Judges (Names machine number) input status = (status ≡ 0) ⊎ (status ≡ 4)
+Judges (Ask query) input status = IfSome input (λ known. JudgesQuery query known status)
 
 -- nothing refuses the parts that the input stands for
 pub record IsValid (input : List ℕ) : Type 0 where
@@ -136,7 +169,10 @@ pub record IsValid (input : List ℕ) : Type 0 where
   pub stands : StandsFor input parts
   pub valid : build_cause parts ≡ None
 
--- the input is known and within the limit, and nothing refuses it
+-- the input, where the request has one, is known and within the limit, and nothing refuses it
 abbrev pub IsAnswerable : Request → Option (List ℕ) → Type 0
 IsAnswerable Build None = ⊥
 IsAnswerable Build (Some input) = IsValid input × (length input ≤ input_limit)
+IsAnswerable (Names machine number) input = Unit {0}
+IsAnswerable (Ask query) None = ⊥
+IsAnswerable (Ask query) (Some input) = IsAnswered query input × (length input ≤ input_limit)

@@ -7,8 +7,10 @@
 mod build;
 mod fault;
 mod input;
+mod names;
 mod output;
 mod program;
+mod query;
 mod script;
 mod words;
 

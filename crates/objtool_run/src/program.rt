@@ -1,22 +1,24 @@
 //! The whole program, over any host.
 
-ghost use Rattle.std.specs.Prelude.{◌≡◌, ◌≢◌, ◌+◌, ◌-◌, ◌<◌, ◌≤◌, ◌↔◌, length, map, string_bytes, Some, IfSome, IfOk, IfErr, OnOk, IsErrOf};
+ghost use Rattle.std.specs.Prelude.{◌≡◌, ◌≢◌, ◌+◌, ◌-◌, ◌<◌, ◌≤◌, ◌↔◌, map, string_bytes, Some, IfSome, IfOk, IfErr, OnOk, IsErrOf};
 ghost use Rattle.byte_core.specs.Count.{Rose, risen, last_count};
 ghost use Rattle.byte_core.specs.Outside.{Outside, ChangesInput};
 ghost use Rattle.objtool_run.specs.Words.{request_of};
 ghost use Rattle.objtool_run.specs.Fault.{fixed_text};
-ghost use Rattle.objtool_run.specs.Run.{Explains, IsOutput, IsTaken, IsJudged, IsOfResponse};
+ghost use Rattle.objtool_run.specs.Run.{Explains, IsOutput, IsTaken, IsLong, IsJudged, IsOfResponse};
 ghost use Rattle.objtool_run.specs.Ends.{Ends, Refuses, Tells, status_of};
 
 use crate::build::answer;
 use crate::fault::Fault;
 use crate::input::{INPUT_LIMIT, read_input};
+use crate::names::name_line;
 use crate::output::{write_fault_text, write_output};
+use crate::query::ask;
 use crate::words::{Request, request_of};
 use byte_core::Host;
 use std::alloc::Global;
 
-/// The output of a request, over the host's input.
+/// The output of a request, over the host's input where it has one.
 fn respond<H: Host>(alloc: Global, request: Request, host: &mut H) -> Result<Vec<u8>, Fault>
     ensures ok { IfOk result (λ text. IsOutput request (H.outside host.old).input text.items) }
     ensures end { OnOk result (IsTaken request (H.outside host.new)) }
@@ -26,7 +28,7 @@ fn respond<H: Host>(alloc: Global, request: Request, host: &mut H) -> Result<Vec
     ensures reading { IsErrOf result Fault.ReadFailed → Rose (H.outside host.old).read_faults (H.outside host.new).read_faults }
     ensures too_long { (H.outside host.new).taken < last_count
         → (IsErrOf result Fault.TooLong ↔ (INPUT_LIMIT < (H.outside host.new).taken - (H.outside host.old).taken)) }
-    ensures long { IsErrOf result Fault.TooLong → IfSome (H.outside host.old).input (λ input. INPUT_LIMIT < length input) }
+    ensures long { IsErrOf result Fault.TooLong → IsLong request (H.outside host.old).input }
     ensures at_most { (H.outside host.new).taken ≤ risen (H.outside host.old).taken (INPUT_LIMIT + 1) }
     ensures others { ChangesInput (H.outside host.old) (H.outside host.new) }
 {
@@ -38,6 +40,17 @@ fn respond<H: Host>(alloc: Global, request: Request, host: &mut H) -> Result<Vec
             };
             answer(alloc, &input)
         }
+        Request::Ask(query) => {
+            let input = match read_input(alloc, host) {
+                Ok(input) => input,
+                Err(error) => return Err(Fault::from(error)),
+            };
+            ask(alloc, query, &input)
+        }
+        Request::Names { machine, number } => match name_line(alloc, machine, number) {
+            Ok(text) => Ok(text),
+            Err(_) => Err(Fault::OutOfMemory),
+        },
     }
 }
 

@@ -7,3 +7,5 @@ mod build_tests;
 mod declaration_tests;
 #[cfg(test)]
 mod files;
+#[cfg(test)]
+mod query_tests;
