@@ -3,31 +3,34 @@
 
 /// Whether an output is these lines, joined, and a newline.
 pub(crate) fn is_file(output: &[u8], lines: &[&str]) -> bool {
-    let mut place = 0;
+    let mut rest = output;
     for line in lines {
-        if !output[place..].starts_with(line.as_bytes()) {
+        if rest.len() < line.len() {
             return false;
         }
-        place += line.len();
+        let (front, behind) = rest.split_at(line.len());
+        if front != line.as_bytes() {
+            return false;
+        }
+        rest = behind;
     }
-    let rest = &output[place..];
     rest == b"\n".as_slice()
 }
 
 /// Whether an output is a front of these lines, joined.
 pub(crate) fn is_front(output: &[u8], lines: &[&str]) -> bool {
-    let mut place = 0;
+    let mut rest = output;
     for line in lines {
-        let rest = &output[place..];
         if rest.len() < line.len() {
             return line.as_bytes().starts_with(rest);
         }
-        if !rest.starts_with(line.as_bytes()) {
+        let (front, behind) = rest.split_at(line.len());
+        if front != line.as_bytes() {
             return false;
         }
-        place += line.len();
+        rest = behind;
     }
-    place == output.len()
+    rest.is_empty()
 }
 
 /// Its object file.
