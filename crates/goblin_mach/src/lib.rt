@@ -20,7 +20,9 @@ pub use fat::{
 pub use header::{
     MH_CIGAM, MH_CIGAM_64, MH_MAGIC, MH_MAGIC_64, SIZEOF_HEADER_32, SIZEOF_HEADER_64,
 };
-pub use laws::{architecture_laws, constant_laws, table_laws};
+pub use laws::{
+    architecture_laws, header_laws, processor_laws, section_laws, table_laws, version_laws,
+};
 pub use mach_error::Error;
 
 // Versions of macOS.

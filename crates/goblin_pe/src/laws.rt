@@ -8,12 +8,17 @@ ghost use Rattle.goblin_pe.specs.TlsConstants.{tls_alignments};
 ghost use Rattle.goblin_pe.specs.LoadConfig.{load_config_fields};
 ghost use Rattle.goblin_pe.specs.LoadConfigFront.{are_there, IsFront};
 
-/// Each constant is the number that its row of the standard's table has.
-#[tactic(auto, unfolding(crate::specs::HeaderConstants::file_characteristics, crate::specs::HeaderConstants::dll_characteristics, crate::specs::HeaderConstants::subsystems, crate::specs::LoadConfigConstants::image_guards, crate::specs::LoadConfigConstants::load_flags, crate::specs::TlsConstants::tls_alignments))]
-pub fn constant_laws()
+/// Each constant of the file header and the optional header is the number that its row of the standard's table has.
+#[tactic(auto, unfolding(crate::specs::HeaderConstants::file_characteristics, crate::specs::HeaderConstants::dll_characteristics, crate::specs::HeaderConstants::subsystems))]
+pub fn header_constant_laws()
     ensures file { AreNumbers file_characteristics }
     ensures dll { AreNumbers dll_characteristics }
     ensures subsystem { AreNumbers subsystems }
+{}
+
+/// Each constant of load configurations and TLS directories is the number that its row of the standard's table has.
+#[tactic(auto, unfolding(crate::specs::LoadConfigConstants::image_guards, crate::specs::LoadConfigConstants::load_flags, crate::specs::TlsConstants::tls_alignments))]
+pub fn directory_constant_laws()
     ensures guards { AreNumbers image_guards }
     ensures loading { AreNumbers load_flags }
     ensures alignments { AreNumbers tls_alignments }

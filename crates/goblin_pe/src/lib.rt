@@ -11,7 +11,7 @@ pub mod load_config;
 pub mod subsystem;
 pub mod tls;
 
-pub use laws::{constant_laws, load_config_law};
+pub use laws::{directory_constant_laws, header_constant_laws, load_config_law};
 pub use load_config::{LoadConfigCodeIntegrity, LoadConfigData, LoadConfigDirectory};
 pub use pe_clr::clr::{
     ClrData, ClrSectionIterator, Cor20Header, StorageHeader, StorageSignature, StorageStream,
