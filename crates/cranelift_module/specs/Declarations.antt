@@ -6,6 +6,7 @@ use Rattle.std.specs.Option.{option_or}
 use Rattle.std.specs.BTreeMap.{BTreeMap, get_by_text, IsUnchanged, Updates}
 use Rattle.cranelift_module.specs.declared.identifiers.FuncOrDataId.{FuncOrDataId}
 use Rattle.cranelift_module.specs.declared.identifiers.FuncOrDataId.TheVariants.{Func, Data}
+pub use Rattle.ir_core.specs.Changes.{changed_at}
 use Rattle.cranelift_module.specs.Rows.{FunctionRow, DataRow}
 use Rattle.cranelift_module.specs.LinkState.{is_function_named, is_data_named}
 
@@ -64,9 +65,3 @@ pub record IsSound (names : BTreeMap (String Global) FuncOrDataId) (functions : 
 abbrev pub numbered : {A : Type 0} → ℕ → List A → List (ℕ × A)
 numbered n [] = []
 numbered n (row ∷ rows) = (n, row) ∷ numbered (n + 1) rows
-
--- the list with the element at this place changed
-abbrev pub changed_at : {A : Type 0} → ℕ → (A → A) → List A → List A
-changed_at k change [] = []
-changed_at zero change (x ∷ xs) = change x ∷ xs
-changed_at (suc k) change (x ∷ xs) = x ∷ changed_at k change xs

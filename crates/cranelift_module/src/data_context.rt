@@ -1,7 +1,8 @@
 //! Descriptions of data objects.
 
-ghost use Rattle.std.specs.Prelude.{◌≡◌, ◌<◌, ◌∷◌, ◌++◌, [], None, false, length, map, option_map, IfOk, OnOk, OnErr};
-ghost use Rattle.cranelift_module.specs.Init.{init_view};
+ghost use Rattle.std.specs.Prelude.{◌≡◌, ◌<◌, ◌∷◌, ◌++◌, [], None, Some, false, length, map, option_map, IfOk, OnOk, OnErr};
+ghost use Rattle.std.specs.List.{list_all};
+ghost use Rattle.cranelift_module.specs.Init.{init_view, is_function_within, is_value_within};
 
 use crate::ModuleRelocTarget;
 use ir_core::{FuncRef, GlobalValue};
@@ -19,6 +20,37 @@ pub enum Init {
     Bytes { contents: Vec<u8> },
 }
 
+impl Init {
+    ghost use Rattle.std.specs.Prelude.{Some, option_map, IsSome, IfOk};
+    ghost use Rattle.cranelift_module.specs.Definitions.{size_of};
+    ghost use Rattle.cranelift_module.specs.Init.{init_view};
+
+    /// How many bytes it has. It needs contents.
+    pub fn size(&self) -> usize
+        requires { IsSome (init_view self.now) }
+        ensures { option_map size_of (init_view self.now) ≡ Some result }
+    {
+        match self {
+            Init::Uninitialized => unreachable!(),
+            Init::Zeros { size } => *size,
+            Init::Bytes { contents } => contents.len(),
+        }
+    }
+
+    /// An equal one. Zeros take no memory.
+    pub fn copy(&self) -> Result<Init, AllocError>
+        ensures { IfOk result (λ init. init_view init ≡ init_view self.now) }
+    {
+        match self {
+            Init::Uninitialized => Ok(Init::Uninitialized),
+            Init::Zeros { size } => Ok(Init::Zeros { size: *size }),
+            Init::Bytes { contents } => Ok(Init::Bytes {
+                contents: contents.to_vec(*contents.allocator())?,
+            }),
+        }
+    }
+}
+
 /// What a data object begins with, the functions and data objects that it may refer to, and where their
 /// addresses are written. A reference is a place in the list of what was imported.
 #[derive(Debug, Drop)]
@@ -34,17 +66,17 @@ pub struct DataDescription {
 }
 
 impl Model for DataDescription {
-    ghost use Rattle.std.specs.Prelude.{option_map, string_bytes};
     ghost use Rattle.cranelift_module.specs.Call.{Description};
-    ghost use Rattle.cranelift_module.specs.Init.{init_view};
+    ghost use Rattle.cranelift_module.specs.DescriptionView.{description_view};
 
     ghost Value = { Description };
 
-    ghost view = { λ d. record { contents = init_view d.init; function_decls = d.function_decls.items; data_decls = d.data_decls.items; function_relocs = d.function_relocs.items; data_relocs = d.data_relocs.items; section = option_map string_bytes d.custom_section; align = d.align; used = d.used } };
+    ghost view = { description_view };
 }
 
 impl DataDescription {
-    ghost use Rattle.cranelift_module.specs.Init.{no_description};
+    ghost use Rattle.cranelift_module.specs.Call.{bytes, zeros};
+    ghost use Rattle.cranelift_module.specs.Init.{no_description, are_in_range};
 
     /// Uninitialized, without references, without a section or an alignment of its own, and not marked as
     /// used.
@@ -162,4 +194,95 @@ impl DataDescription {
         self.data_decls.push(name)?;
         Ok(GlobalValue::from_u32(place))
     }
+
+    /// Begins with these bytes. It needs that nothing was said of the contents before.
+    pub fn define(&mut self, contents: Vec<u8>)
+        requires { (self.old).contents ≡ None }
+        ensures { self.new ≡ record self.old { contents = Some (bytes contents.items) } }
+    {
+        self.init = Init::Bytes { contents };
+    }
+
+    /// Begins with so many zeros, in bytes. It needs that nothing was said of the contents before.
+    pub fn define_zeroinit(&mut self, size: usize)
+        requires { (self.old).contents ≡ None }
+        ensures { self.new ≡ record self.old { contents = Some (zeros size) } }
+    {
+        self.init = Init::Zeros { size };
+    }
+
+    /// Asks for a section of its own, by a text. Where memory runs out, the description is as it was.
+    pub fn set_custom_section(&mut self, alloc: Global, section: &str) -> Result<(), AllocError>
+        ensures ok { OnOk result (self.new ≡ record self.old { section = Some section.now }) }
+        ensures err { OnErr result (self.new ≡ self.old) }
+    {
+        let section = String::from_str(alloc, section)?;
+        self.custom_section = Some(section);
+        Ok(())
+    }
+
+    /// Asks for an alignment, in bytes. It is judged where the data object is defined.
+    pub fn set_align(&mut self, align: u64)
+        ensures { self.new ≡ record self.old { align = Some align } }
+    {
+        self.align = Some(align);
+    }
+
+    /// Asks the linker to keep the data object, or not to.
+    pub fn set_used(&mut self, used: bool)
+        ensures { self.new ≡ record self.old { used = used } }
+    {
+        self.used = used;
+    }
+
+    /// Writes the address of an imported function at an offset, in bytes. Any reference is taken; it is judged where
+    /// the data object is defined. Where memory runs out, the description is as it was.
+    pub fn write_function_addr(&mut self, offset: u32, func: FuncRef) -> Result<(), AllocError>
+        ensures ok { OnOk result (self.new ≡ record self.old { function_relocs = (self.old).function_relocs ++ (offset, func) ∷ [] }) }
+        ensures err { OnErr result (self.new ≡ self.old) }
+    {
+        self.function_relocs.push((offset, func))?;
+        Ok(())
+    }
+
+    /// Writes the address of an imported data object, and an addend, at an offset, in bytes. Any reference is taken; it
+    /// is judged where the data object is defined. Where memory runs out, the description is as it was.
+    pub fn write_data_addr(
+        &mut self,
+        offset: u32,
+        value: GlobalValue,
+        addend: i64,
+    ) -> Result<(), AllocError>
+        ensures ok { OnOk result (self.new ≡ record self.old { data_relocs = (self.old).data_relocs ++ (offset, value, addend) ∷ [] }) }
+        ensures err { OnErr result (self.new ≡ self.old) }
+    {
+        self.data_relocs.push((offset, value, addend))?;
+        Ok(())
+    }
+
+    /// Whether each reference lies in the list of what was imported.
+    pub fn references_in_range(&self) -> bool
+        ensures { result ≡ are_in_range self.now }
+    {
+        are_functions_within(&self.function_relocs, self.function_decls.len())
+            && are_values_within(&self.data_relocs, self.data_decls.len())
+    }
+}
+
+// Whether each of these references is below a count.
+fn are_functions_within(relocs: &[(u32, FuncRef)], count: usize) -> bool
+    ensures { result ≡ list_all (is_function_within count) relocs.now }
+{
+    relocs
+        .iter()
+        .all(|reloc| (reloc.1.as_u32() as usize) < count)
+}
+
+// Whether each of these references is below a count.
+fn are_values_within(relocs: &[(u32, GlobalValue, i64)], count: usize) -> bool
+    ensures { result ≡ list_all (is_value_within count) relocs.now }
+{
+    relocs
+        .iter()
+        .all(|reloc| (reloc.1.as_u32() as usize) < count)
 }

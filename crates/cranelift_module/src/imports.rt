@@ -1,8 +1,8 @@
 //! Imports of declared identifiers into functions. Room was made before, so none is refused.
 
-ghost use Rattle.std.specs.Prelude.{◌≡◌, ◌<◌, ◌++◌, ◌∷◌, [], pos, false, length};
-ghost use Rattle.ir_core.specs.Function.{HasRoom, with_name, name_place};
-ghost use Rattle.ir_core.specs.declared.external_name.ExternalName.TheVariants.{User};
+ghost use Rattle.std.specs.Prelude.{◌≡◌, ◌<◌, length};
+ghost use Rattle.ir_core.specs.Function.{HasRoom};
+ghost use Rattle.cranelift_module.specs.Imports.{with_call, with_value};
 
 use ir_core::{
     ExtFuncData, ExternalName, FuncRef, Function, GlobalValue, GlobalValueData, Signature,
@@ -20,7 +20,7 @@ pub(crate) fn import_called(
     requires names { length (func.old).lists.user_named_funcs < 4294967295 }
     requires signatures { length (func.old).lists.signatures < 4294967295 }
     requires functions { length (func.old).lists.ext_funcs < 4294967295 }
-    ensures lists { (func.new).lists ≡ record (func.old).lists { user_named_funcs = with_name name (func.old).lists.user_named_funcs; signatures = (func.old).lists.signatures ++ signature ∷ []; ext_funcs = (func.old).lists.ext_funcs ++ record { name = User (name_place name (func.old).lists.user_named_funcs); signature = length (func.old).lists.signatures; colocated = colocated; patchable = false } ∷ [] } }
+    ensures lists { (func.new).lists ≡ with_call name signature colocated (func.old).lists }
     ensures place { result ≡ length (func.old).lists.ext_funcs }
 {
     let Ok(signature) = func.import_signature(signature) else {
@@ -51,7 +51,7 @@ pub(crate) fn import_value(
     requires room { HasRoom (func.old).room }
     requires names { length (func.old).lists.user_named_funcs < 4294967295 }
     requires values { length (func.old).lists.global_values < 4294967295 }
-    ensures lists { (func.new).lists ≡ record (func.old).lists { user_named_funcs = with_name name (func.old).lists.user_named_funcs; global_values = (func.old).lists.global_values ++ record { name = User (name_place name (func.old).lists.user_named_funcs); offset = pos 0; colocated = colocated; tls = tls } ∷ [] } }
+    ensures lists { (func.new).lists ≡ with_value name colocated tls (func.old).lists }
     ensures place { result ≡ length (func.old).lists.global_values }
 {
     let Ok(name) = func.declare_imported_user_function(name) else {

@@ -171,7 +171,7 @@ definition_step o marks j function contents h at below =
     let row = row_at o.state.functions function below in
     let there = created_at o marks function h below in
     let step =
-    partial-end o.settings o.state (take j ds) d function there.0 row.0 refl refl row.1 (undefined_before o marks j function contents h at) there.1 (λ i y found ne. created_apart o marks there.0 i y (Func function) h there.1 found ne)
+    partial-end o.settings o.state (take j ds) d function there.0 row.0 h.begun.format refl refl row.1 (undefined_before o marks j function contents h at) there.1 (λ i y found ne. created_apart o marks there.0 i y (Func function) h there.1 found ne)
     (text_kinds o marks j d h at)
     in
     ap (partial o.settings o.state) (front_more ds j d at) ∙ step

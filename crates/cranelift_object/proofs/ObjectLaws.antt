@@ -11,7 +11,9 @@ use Rattle.object_core.specs.declared.symbol.Symbol.{Symbol}
 use Rattle.object_core.specs.Object.{SectionData, ObjectData}
 use Rattle.object_core.specs.Places.{end_of}
 use Rattle.object_core.specs.Standard.{is_zero_fill}
-use Rattle.object_core.specs.Appending.{changed_at, with_symbol_data, next_offset, offset_in, defined_symbol, file_symbol}
+use Rattle.object_core.specs.Appending.{changed_at, with_contents, with_symbol_data, stored_in, room_in, next_offset, offset_in, defined_symbol, file_symbol}
+use Rattle.ir_core.specs.declared.target.BinaryFormat.{BinaryFormat}
+use Rattle.ir_core.specs.declared.target.BinaryFormat.TheVariants.{Elf}
 use Rattle.cranelift_module.specs.declared.identifiers.FuncOrDataId.{FuncOrDataId}
 use Rattle.cranelift_module.specs.declared.identifiers.FuncOrDataId.TheVariants.{Func}
 use Rattle.cranelift_module.specs.Rows.{FunctionRow}
@@ -83,13 +85,28 @@ offset_there settings s ds d =
     let at = section_at settings s (placed_of settings s ds) classes 0 n n there.0 there.1 (omega arith) in
     ap (λ (o : Option SectionData). unwrap_or (option_map (offset_in (align_of s d)) o) 0) at ∙ ap (λ extents. next_multiple_of (end_of extents) (align_of s d)) (members_extents settings s n ds)
 
+stored_elf : (format : BinaryFormat) (bytes : List ℕ) → format ≡ Elf → stored_in format bytes ≡ bytes
+stored_elf format bytes e = rw e refl
+
+room_elf : (format : BinaryFormat) (size : ℕ) → format ≡ Elf → room_in format size ≡ size
+room_elf format size e = rw e refl
+
+-- in ELF contents are stored as they are
+plain_data : (o : ObjectData) (symbol section : ℕ) (bytes : List ℕ) (align : ℕ) → o.format ≡ Elf
+    → record o {
+      sections = changed_at section (with_contents bytes align) o.sections;
+      symbols = changed_at symbol (defined_symbol section (next_offset o section align) (length bytes)) o.symbols;
+      content_sum = o.content_sum + (length bytes + align);
+    } ≡ with_symbol_data o symbol section bytes align
+plain_data o symbol section bytes align e = rw (stored_elf o.format bytes e, room_elf o.format (length bytes) e) refl
+
 -- an object with one more definition is the opened one with its contents behind those of its section
-pub partial-end : (settings : Settings) (s : LinkState) (ds : List Definition) (d : Definition) (k r : ℕ) (row : FunctionRow) → d.relocs ≡ [] → d.identifier ≡ Func k → slice_get s.functions k ≡ Some row → defined_at (placed_of settings s ds) (Func k) ≡ None → slice_get s.created r ≡ Some (Func k)
+pub partial-end : (settings : Settings) (s : LinkState) (ds : List Definition) (d : Definition) (k r : ℕ) (row : FunctionRow) → s.target.triple.binary_format ≡ Elf → d.relocs ≡ [] → d.identifier ≡ Func k → slice_get s.functions k ≡ Some row → defined_at (placed_of settings s ds) (Func k) ≡ None → slice_get s.created r ≡ Some (Func k)
     → ((i : ℕ) (y : FuncOrDataId) → slice_get s.created i ≡ Some y → i ≢ r → is_same_identifier y (Func k) ≡ false)
     → All (λ (c : Class). is_zero_fill c.kind ≡ false) (sections_used (map (section_class settings s) ds ++ section_class settings s d ∷ []))
     → partial settings s (ds ++ d ∷ []) ≡ with_symbol_data (opened settings s ds d) (suc r) (number_behind settings s ds d) (contents_of d.contents) (align_of s d)
 unfolding partial opened
-partial-end settings s ds d k r row plain is declared undefined at apart kinds =
+partial-end settings s ds d k r row elf plain is declared undefined at apart kinds =
     let ps : List Placed = placed_of settings s ds in
     let p : Placed = placed_at settings s (record { before = ds; here = d }) in
     let classes : List Class = sections_used (map (section_class settings s) ds ++ section_class settings s d ∷ []) in
@@ -110,7 +127,7 @@ partial-end settings s ds d k r row plain is declared undefined at apart kinds =
     ∙ ap (λ (count : ℕ). file_symbol settings.file_name ∷ changed_at r (defined_symbol n (next_offset (opened settings s ds d) n (align_of s d)) count) (map (identifier_symbol s ps) s.created)) size
     in
     let sum = sum_by_push (λ (x : Definition). room_of x + align_of s x) ds d ∙ ap (λ (count : ℕ). sum_by (λ (x : Definition). room_of x + align_of s x) ds + (count + align_of s d)) size in
-    same_object (opened settings s ds d) _ _ _ _ _ _ sections symbols sum
+    same_object (opened settings s ds d) _ _ _ _ _ _ sections symbols sum ∙ plain_data (opened settings s ds d) (suc r) n (contents_of d.contents) (align_of s d) elf
 
 -- the format of the object is the target's
 pub partial_format : (settings : Settings) (s : LinkState) (ds : List Definition) → (partial settings s ds).format ≡ s.target.triple.binary_format

@@ -35,15 +35,16 @@ impl Model for ObjectModule {
     ghost Value = { OpenModule };
 
     ghost use Rattle.cranelift_object.specs.Kept.{IsModule};
+    ghost use Rattle.cranelift_object.specs.ModuleView.{module_view, marks_view};
 
-    ghost view = { λ m. record { settings = m.builder.settings; state = record { target = m.builder.target; functions = m.declarations.functions; objects = m.declarations.objects; created = m.created.items; definitions = m.definitions.items } } };
+    ghost view = { module_view };
 
-    ghost invariant = { λ m. IsModule (record { settings = m.builder.settings; state = record { target = m.builder.target; functions = m.declarations.functions; objects = m.declarations.objects; created = m.created.items; definitions = m.definitions.items } }) (record { functions = m.defined.items; objects = m.defined_objects.items }) };
+    ghost invariant = { λ m. IsModule (module_view m) (marks_view m) };
 }
 
 impl ObjectModule {
-    #[tactic(auto, using(crate::proofs::KeptLaws::kept_none, crate::proofs::KeptLaws::state_of_none))]
     /// A module without declarations. Only memory can run out.
+    #[tactic(auto, using(crate::proofs::KeptLaws::kept_none, crate::proofs::KeptLaws::state_of_none))]
     pub fn new(builder: ObjectBuilder) -> ModuleResult<Self>
         ensures ok { IfOk result (λ m. m ≡ record { settings = builder.settings; state = state_of builder.target [] }) }
         ensures err { IfErr result (λ e. Tells e None) }

@@ -29,17 +29,18 @@ impl Model for ObjectBuilder {
 
     ghost Value = { BuilderData };
 
-    ghost view = { λ b. record { settings = record { file_name = b.name.items; library_names = b.libcall_names; function_sections = b.function_sections; data_sections = b.data_sections }; target = b.isa } };
-
     ghost use Rattle.cranelift_object.specs.Kept.{IsBegun};
+    ghost use Rattle.cranelift_object.specs.BuilderView.{builder_view};
 
-    ghost invariant = { λ b. IsBegun (record { settings = record { file_name = b.name.items; library_names = b.libcall_names; function_sections = b.function_sections; data_sections = b.data_sections }; target = b.isa }) };
+    ghost view = { builder_view };
+
+    ghost invariant = { λ b. IsBegun (builder_view b) };
 }
 
 impl ObjectBuilder {
-    #[tactic(auto, using(crate::proofs::KeptLaws::supported_elf), unfolding(crate::specs::Part::start_cause))]
     /// Settings with both options off. A target that isn't built, a zero byte in the file's name and one in a text of
     /// a library call are refused. Mach-O comes with a later stage.
+    #[tactic(auto, using(crate::proofs::KeptLaws::supported_elf), unfolding(crate::specs::Part::start_cause))]
     pub fn new(
         alloc: Global,
         isa: TargetIsa,

@@ -64,14 +64,13 @@ pub struct CommandPart {
 }
 
 impl Model for CommandPart {
-    ghost use Rattle.std.specs.Prelude.{map};
     ghost use Rattle.cranelift_object.specs.Part.{PartData};
 
     ghost Value = { PartData };
 
-    ghost use Rattle.cranelift_object.specs.Commands.{command_view};
+    ghost use Rattle.cranelift_object.specs.PartView.{part_view};
 
-    ghost view = { λ p. record { settings = record { file_name = p.name.items; library_names = p.libcall_names; function_sections = p.function_sections; data_sections = p.data_sections }; target = p.isa; calls = map command_view p.commands.items } };
+    ghost view = { part_view };
 }
 
 impl CommandPart {

@@ -4,7 +4,7 @@ ghost use Rattle.std.specs.Prelude.{◌≡◌, ◌<◌, ◌+◌, ◌++◌, [], l
 ghost use Rattle.std.specs.List.{list_any, enumerate_from};
 ghost use Rattle.std.specs.Option.{option_or};
 ghost use Rattle.cranelift_module.specs.Refusal.{Tells, is_defined, first_cause};
-ghost use Rattle.cranelift_object.specs.EndCause.{end_cause, missing_function, missing_data, function_missing, data_missing};
+ghost use Rattle.cranelift_object.specs.EndCause.{end_cause, first_missing_function, first_missing_data, function_missing, data_missing};
 ghost use Rattle.cranelift_object.specs.Linked.{object_of, identifier_symbol, function_symbol, data_symbol, scope_of, file_flags, turns_compression_off};
 ghost use Rattle.ir_core.specs.declared.target.BinaryFormat.TheVariants.{Elf};
 ghost use Rattle.object_core.specs.Appending.{with_symbol};
@@ -62,9 +62,9 @@ impl ObjectModule {
 
     // Refuses the first function that wants a definition and has none. Behind these stand data objects alone.
     fn check_functions(&self) -> ModuleResult<()>
-        ensures parts { end_cause (self.now).state ≡ option_or (first_cause (map (missing_function (self.now).state) (enumerate_from 0 (self.now).state.functions))) (first_cause (map (missing_data (self.now).state) (enumerate_from 0 (self.now).state.objects))) }
-        ensures none { OnOk result (first_cause (map (missing_function (self.now).state) (enumerate_from 0 (self.now).state.functions)) ≡ None) }
-        ensures cause { IfErr result (λ e. Tells e (first_cause (map (missing_function (self.now).state) (enumerate_from 0 (self.now).state.functions)))) }
+        ensures parts { end_cause (self.now).state ≡ option_or (first_missing_function (self.now).state) (first_missing_data (self.now).state) }
+        ensures none { OnOk result (first_missing_function (self.now).state ≡ None) }
+        ensures cause { IfErr result (λ e. Tells e (first_missing_function (self.now).state)) }
     {
         for number in 0..self.defined.len() {
             if let Err(error) = self.check_function(FuncId::from_u32(number as u32)) {
@@ -76,8 +76,8 @@ impl ObjectModule {
 
     // Refuses the first data object that wants a definition and has none.
     fn check_objects(&self) -> ModuleResult<()>
-        ensures none { OnOk result (first_cause (map (missing_data (self.now).state) (enumerate_from 0 (self.now).state.objects)) ≡ None) }
-        ensures cause { IfErr result (λ e. Tells e (first_cause (map (missing_data (self.now).state) (enumerate_from 0 (self.now).state.objects)))) }
+        ensures none { OnOk result (first_missing_data (self.now).state ≡ None) }
+        ensures cause { IfErr result (λ e. Tells e (first_missing_data (self.now).state)) }
     {
         for number in 0..self.defined_objects.len() {
             if let Err(error) = self.check_object(DataId::from_u32(number as u32)) {

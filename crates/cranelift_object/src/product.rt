@@ -58,6 +58,7 @@ impl ObjectProduct {
         emit_elf(alloc, &self.object)
     }
 
+    /// The object.
     pub fn object(&self) -> &Object
         ensures { result.now ≡ (self.now).object }
     {

@@ -1,6 +1,6 @@
 //! Objects: sections and symbols in order of creation.
 
-ghost use Rattle.std.specs.Prelude.{◌≡◌, ◌+◌, ◌∷◌, ◌++◌, [], ◌<◌, ◌^◌, true, length, slice_get, Some, IfOk, OnErr, OnOk, unwrap_or};
+ghost use Rattle.std.specs.Prelude.{◌≡◌, ◌+◌, ◌∷◌, ◌++◌, [], ◌<◌, ◌^◌, true, length, replicate, slice_get, Some, None, IsOk, IfOk, OnErr, OnOk, unwrap_or};
 ghost use Rattle.std.specs.List.{position_from};
 ghost use Rattle.std.specs.Str.{bytes_eq};
 ghost use Rattle.std.specs.Int.{is_power_of_two};
@@ -8,12 +8,11 @@ ghost use Rattle.std.specs.Borrow.{Lends, sem};
 ghost use Rattle.ir_core.specs.declared.target.BinaryFormat.TheVariants.{Elf};
 ghost use Rattle.object_core.specs.contracts.object.Object.{the_row};
 ghost use Rattle.object_core.specs.contracts.symbol.Symbol.{the_row as symbol_row};
-ghost use Rattle.object_core.specs.Standard.{is_same_shared};
-ghost use Rattle.object_core.specs.Appending.{empty_object, with_build_version, with_symbol, with_symbol_at, file_symbol, standard_at, with_standard_section, with_subsection, with_section, next_offset, with_symbol_data, IsUndefined, HasBytes, AreSections};
+ghost use Rattle.object_core.specs.Appending.{empty_object, with_build_version, with_symbol, with_symbol_at, file_symbol, standard_at, with_standard, with_standard_section, with_subsection, with_section, with_retain, with_relocation, next_offset, room_in, stored_in, with_section_data, with_section_room, with_definition, with_symbol_data, with_symbol_zeros, with_symbol_bss, IsUndefined, HasBytes, IsZeroFill, AreSections};
 
 use crate::{
-    MachOBuildVersion, Section, SectionId, SectionKind, StandardSection, Symbol, SymbolId,
-    SymbolKind, SymbolName, SymbolScope, SymbolSection,
+    MachOBuildVersion, Relocation, Section, SectionId, SectionKind, StandardSection, Symbol,
+    SymbolId, SymbolKind, SymbolName, SymbolScope, SymbolSection,
 };
 use ir_core::{Architecture, BinaryFormat};
 use std::alloc::{AllocError, Global};
@@ -28,6 +27,8 @@ pub struct Object {
     e_flags: u32,
     build_version: Option<MachOBuildVersion>,
     sections: Vec<Section>,
+    // The number of each standard section, by its place in their order, none before its first use.
+    standard_sections: [Option<usize>; 7],
     symbols: Vec<Symbol>,
     content_sum: u128,
 }
@@ -39,9 +40,9 @@ impl Model for Object {
 
     ghost view = { λ o. record { format = o.format; architecture = o.architecture; e_flags = o.e_flags; build_version = o.build_version; sections = o.sections.items; symbols = o.symbols.items; content_sum = o.content_sum } };
 
-    ghost use Rattle.object_core.specs.Appending.{AreSections};
+    ghost use Rattle.object_core.specs.Appending.{IsKept};
 
-    ghost invariant = { λ o. AreSections o.format o.sections.items o.content_sum };
+    ghost invariant = { λ o. IsKept o.format o.sections.items o.content_sum o.standard_sections };
 }
 
 impl Object {
@@ -61,6 +62,7 @@ impl Object {
             e_flags,
             build_version: None,
             sections: Vec::new(alloc),
+            standard_sections: [None; 7],
             symbols: Vec::new(alloc),
             content_sum: 0,
         }
@@ -207,11 +209,32 @@ impl Object {
         ensures ok { OnOk result (self.new ≡ with_standard_section self.old standard) }
         ensures err { OnErr result (self.new ≡ self.old) }
     {
-        if let Some(number) = place_of(&self.sections, standard) {
-            return Ok(SectionId::from_number(number));
+        match self.kept_number(standard) {
+            Some(number) => Ok(SectionId::from_number(number)),
+            None => self.push_standard(standard),
         }
+    }
+
+    // Appends a standard section that is not there yet.
+    fn push_standard(&mut self, standard: StandardSection) -> Result<SectionId, AllocError>
+        requires { standard_at (self.old).sections standard ≡ None }
+        ensures id { IfOk result (λ id. id ≡ length (self.old).sections) }
+        ensures ok { OnOk result (self.new ≡ with_standard self.old standard None) }
+        ensures err { OnErr result (self.new ≡ self.old) }
+    {
         let section = Section::standard(self.alloc, standard)?;
-        self.push_section(section)
+        let number = self.sections.len();
+        self.sections.push(section)?;
+        self.standard_sections[standard.place()] = Some(number);
+        Ok(SectionId::from_number(number))
+    }
+
+    // The number of a standard section, where it is there.
+    fn kept_number(&self, standard: StandardSection) -> Option<usize>
+        ensures { result ≡ standard_at (self.now).sections standard }
+    {
+        let place = standard.place();
+        self.standard_sections[place]
     }
 
     /// A new section beside a standard one, under its name and `.subsection`.
@@ -225,11 +248,12 @@ impl Object {
         self.push_section(section)
     }
 
-    // Appends a section in which nothing is yet.
+    // Appends a section of its own, in which nothing is yet.
     fn push_section(&mut self, section: Section) -> Result<SectionId, AllocError>
         requires contents { section.contents ≡ [] }
         requires size { section.size ≡ 0 }
         requires align { section.align ≡ 1 }
+        requires shared { section.shared ≡ None }
         ensures id { IfOk result (λ id. id ≡ length (self.old).sections) }
         ensures ok { OnOk result (self.new ≡ record self.old { sections = (self.old).sections ++ section ∷ [] }) }
         ensures err { OnErr result (self.new ≡ self.old) }
@@ -239,9 +263,32 @@ impl Object {
         Ok(id)
     }
 
-    /// Appends contents to a section, behind zeros up to their alignment, and defines the symbol there. The answer is
-    /// their offset in the section, in bytes.
-    #[tactic(auto, using(crate::proofs::Sections::mapped_within, crate::proofs::Sections::mapped_is, crate::proofs::Sections::changed_set, crate::proofs::Sections::offset_is, crate::proofs::Sections::contents_are, crate::proofs::Sections::more_contents, crate::proofs::Sections::unchanged_set))]
+    /// Marks a section as one that the linker keeps also where nothing uses it.
+    pub fn set_retain(&mut self, section: SectionId)
+        requires { section < length (self.old).sections }
+        ensures { self.new ≡ with_retain self.old section }
+    {
+        self.sections[section.as_number()].set_retain();
+    }
+
+    /// Appends a relocation to those of a section. Whatever it says is an object's relocation; a writer asks more of it
+    /// than an object does.
+    #[tactic(auto, using(crate::proofs::Sections::unchanged_set))]
+    pub fn add_relocation(
+        &mut self,
+        section: SectionId,
+        relocation: Relocation,
+    ) -> Result<(), AllocError>
+        requires { section < length (self.old).sections }
+        ensures ok { OnOk result (self.new ≡ with_relocation self.old section relocation) }
+        ensures err { OnErr result (self.new ≡ self.old) }
+    {
+        self.sections[section.as_number()].add_relocation(relocation)?;
+        Ok(())
+    }
+
+    /// Appends contents to a section, behind zeros up to their alignment, and defines the symbol there. In Mach-O empty
+    /// contents take one zero byte. The answer is their offset in the section, in bytes.
     pub fn add_symbol_data(
         &mut self,
         symbol: SymbolId,
@@ -252,24 +299,151 @@ impl Object {
         requires power { is_power_of_two align ≡ true }
         requires symbol { IsUndefined self.old symbol }
         requires section { HasBytes self.old section }
-        requires format { (self.old).format ≡ Elf }
         requires sum { (self.old).content_sum < 2 ^ 127 }
         ensures offset { IfOk result (λ offset. offset ≡ next_offset self.old section align) }
         ensures ok { OnOk result (self.new ≡ with_symbol_data self.old symbol section contents.now align) }
         ensures err { OnErr result (self.new ≡ self.old) }
     {
-        let offset = self.sections[section.as_number()].append(contents, align)?;
-        self.symbols[symbol.as_number()].define(section, offset, contents.len() as u64);
-        self.content_sum += amount_of(contents, align);
+        let offset = self.append_section_data(section, contents, align)?;
+        self.define_symbol(symbol, section, offset, contents.len() as u64);
         Ok(offset)
+    }
+
+    /// Appends so many zeros to a section, behind zeros up to their alignment, and defines the symbol there. The zeros
+    /// are written; in Mach-O none of them take one byte. The answer is their offset in the section, in bytes.
+    pub fn add_symbol_zeros(
+        &mut self,
+        symbol: SymbolId,
+        section: SectionId,
+        size: u64,
+        align: u64,
+    ) -> Result<u128, AllocError>
+        requires power { is_power_of_two align ≡ true }
+        requires symbol { IsUndefined self.old symbol }
+        requires section { HasBytes self.old section }
+        requires sum { (self.old).content_sum < 2 ^ 127 }
+        ensures offset { IfOk result (λ offset. offset ≡ next_offset self.old section align) }
+        ensures ok { OnOk result (self.new ≡ with_symbol_zeros self.old symbol section size align) }
+        ensures err { OnErr result (self.new ≡ self.old) }
+    {
+        let offset = self.append_section_zeros(section, size, align)?;
+        self.define_symbol(symbol, section, offset, size);
+        Ok(offset)
+    }
+
+    /// Makes a zero-fill section larger by this size, in Mach-O by one at least, behind a gap up to the alignment, and
+    /// defines the symbol there. No byte is written, so it takes no memory. The answer is the offset in the section, in
+    /// bytes.
+    pub fn add_symbol_bss(
+        &mut self,
+        symbol: SymbolId,
+        section: SectionId,
+        size: u64,
+        align: u64,
+    ) -> Result<u128, AllocError>
+        requires power { is_power_of_two align ≡ true }
+        requires symbol { IsUndefined self.old symbol }
+        requires section { IsZeroFill self.old section }
+        requires sum { (self.old).content_sum < 2 ^ 127 }
+        ensures succeeds { IsOk result }
+        ensures offset { IfOk result (λ offset. offset ≡ next_offset self.old section align) }
+        ensures ok { OnOk result (self.new ≡ with_symbol_bss self.old symbol section size align) }
+    {
+        let offset = self.append_section_room(section, size, align);
+        self.define_symbol(symbol, section, offset, size);
+        Ok(offset)
+    }
+
+    // Appends contents to a section, behind zeros up to their alignment, and answers their offset.
+    #[tactic(auto, using(crate::proofs::Sections::unchanged_set))]
+    fn append_section_data(
+        &mut self,
+        section: SectionId,
+        contents: &[u8],
+        align: u64,
+    ) -> Result<u128, AllocError>
+        requires power { is_power_of_two align ≡ true }
+        requires section { HasBytes self.old section }
+        requires sum { (self.old).content_sum < 2 ^ 127 }
+        ensures offset { IfOk result (λ offset. offset ≡ next_offset self.old section align) }
+        ensures ok { OnOk result (self.new ≡ with_section_data self.old section contents.now align) }
+        ensures err { OnErr result (self.new ≡ self.old) }
+    {
+        let stored = stored_in(self.format, contents);
+        let offset = self.sections[section.as_number()].append(stored, align)?;
+        self.content_sum += amount_of(self.format, contents.len() as u64, align);
+        Ok(offset)
+    }
+
+    // Appends so many zeros to a section, likewise.
+    #[tactic(auto, using(crate::proofs::Sections::unchanged_set))]
+    fn append_section_zeros(
+        &mut self,
+        section: SectionId,
+        size: u64,
+        align: u64,
+    ) -> Result<u128, AllocError>
+        requires power { is_power_of_two align ≡ true }
+        requires section { HasBytes self.old section }
+        requires sum { (self.old).content_sum < 2 ^ 127 }
+        ensures offset { IfOk result (λ offset. offset ≡ next_offset self.old section align) }
+        ensures ok { OnOk result (self.new ≡ with_section_data self.old section (replicate size 0) align) }
+        ensures err { OnErr result (self.new ≡ self.old) }
+    {
+        let stored = room_in(self.format, size);
+        let offset = self.sections[section.as_number()].append_zeros(stored, align)?;
+        self.content_sum += amount_of(self.format, size, align);
+        Ok(offset)
+    }
+
+    // Makes a zero-fill section larger, and answers the offset of what is new.
+    fn append_section_room(&mut self, section: SectionId, size: u64, align: u64) -> u128
+        requires power { is_power_of_two align ≡ true }
+        requires section { IsZeroFill self.old section }
+        requires sum { (self.old).content_sum < 2 ^ 127 }
+        ensures offset { result ≡ next_offset self.old section align }
+        ensures room { self.new ≡ with_section_room self.old section size align }
+    {
+        let room = room_in(self.format, size);
+        let offset = self.sections[section.as_number()].append_room(room, align);
+        self.content_sum += amount_of(self.format, size, align);
+        offset
+    }
+
+    // Places a symbol at an offset of a section.
+    fn define_symbol(&mut self, symbol: SymbolId, section: SectionId, offset: u128, size: u64)
+        requires { IsUndefined self.old symbol }
+        ensures { self.new ≡ with_definition self.old symbol section offset size }
+    {
+        self.symbols[symbol.as_number()].define(section, offset, size);
     }
 }
 
-// What contents add to the sum that limits are judged by, in bytes.
-fn amount_of(contents: &[u8], align: u64) -> u128
-    ensures { result ≡ length contents.now + align }
+// What a definition adds to the sum that limits are judged by, in bytes.
+fn amount_of(format: BinaryFormat, size: u64, align: u64) -> u128
+    ensures { result ≡ room_in format size + align }
 {
-    contents.len() as u128 + u128::from(align)
+    u128::from(room_in(format, size)) + u128::from(align)
+}
+
+// How many bytes a definition of this size takes.
+fn room_in(format: BinaryFormat, size: u64) -> u64
+    ensures { result ≡ room_in format size }
+{
+    match format {
+        BinaryFormat::Macho => size.max(1),
+        _ => size,
+    }
+}
+
+// Contents as a section stores them.
+fn stored_in<'a>(format: BinaryFormat, contents: &'a [u8]) -> &'a [u8]
+    ensures { result.now ≡ stored_in format contents.now }
+{
+    match format {
+        BinaryFormat::Macho if contents.is_empty() => &[0],
+        _ => contents,
+    }
 }
 
 fn place_named(symbols: &[Symbol], name: &[u8]) -> Option<usize>
@@ -278,21 +452,4 @@ fn place_named(symbols: &[Symbol], name: &[u8]) -> Option<usize>
     symbols
         .iter()
         .position(|symbol| symbol.name.as_slice() == name)
-}
-
-fn place_of(sections: &[Section], standard: StandardSection) -> Option<usize>
-    ensures { result ≡ standard_at sections.now standard }
-{
-    sections
-        .iter()
-        .position(|section| is_shared_as(section, standard))
-}
-
-fn is_shared_as(section: &Section, standard: StandardSection) -> bool
-    ensures { result ≡ is_same_shared (Some standard) (section.now).shared }
-{
-    match section.shared() {
-        Some(other) => standard.place() == other.place(),
-        None => false,
-    }
 }

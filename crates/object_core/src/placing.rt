@@ -24,3 +24,19 @@ pub(crate) fn append_padded(
     }
     Ok(())
 }
+
+/// Appends so many zeros, and then zeros of this size.
+#[tactic(auto, using(crate::proofs::Sections::zeros_behind))]
+pub(crate) fn append_zeros(out: &mut Vec<u8>, zeros: usize, size: usize) -> Result<(), AllocError>
+    ensures ok { OnOk result (out.new.items ≡ out.old.items ++ replicate zeros 0 ++ replicate size 0) }
+    ensures err { OnErr result (out.new.items ≡ out.old.items) }
+{
+    let Some(padded) = out.len().checked_add(zeros) else {
+        return Err(AllocError);
+    };
+    let Some(end) = padded.checked_add(size) else {
+        return Err(AllocError);
+    };
+    out.resize(end, 0)?;
+    Ok(())
+}

@@ -1,11 +1,11 @@
 //! Sections of an object.
 
-ghost use Rattle.std.specs.Prelude.{◌≡◌, ◌<◌, ◌^◌, true, length, None, IfOk, OnErr, OnOk};
+ghost use Rattle.std.specs.Prelude.{◌≡◌, ◌<◌, ◌^◌, true, length, replicate, None, IfOk, OnErr, OnOk};
 ghost use Rattle.std.specs.Int.{is_power_of_two};
 ghost use Rattle.object_core.specs.Standard.{empty_section, empty_standard, empty_subsection};
-ghost use Rattle.object_core.specs.Appending.{with_contents, offset_in};
+ghost use Rattle.object_core.specs.Appending.{retained, relocated, with_contents, with_room, offset_in};
 
-use crate::placing::append_padded;
+use crate::placing::{append_padded, append_zeros};
 use crate::{Relocation, SectionKind, StandardSection};
 use std::alloc::{AllocError, Global};
 use std::marker::Model;
@@ -27,10 +27,11 @@ pub struct Section {
 
 impl Model for Section {
     ghost use Rattle.object_core.specs.Object.{SectionData};
+    ghost use Rattle.object_core.specs.SectionView.{section_view};
 
     ghost Value = { SectionData };
 
-    ghost view = { λ s. record { segment = s.segment.items; name = s.name.items; kind = s.kind; macho_flags = s.macho_flags; retain = s.retain; align = s.align; size = s.size; contents = s.contents.items; relocations = s.relocations.items; shared = s.shared } };
+    ghost view = { section_view };
 }
 
 impl Section {
@@ -139,6 +140,22 @@ impl Section {
         Ok(empty_section(segment, name, kind, macho_flags, None))
     }
 
+    /// Marks it as one that the linker keeps.
+    pub(crate) fn set_retain(&mut self)
+        ensures { self.new ≡ retained self.old }
+    {
+        self.retain = true;
+    }
+
+    /// Appends a relocation.
+    pub(crate) fn add_relocation(&mut self, relocation: Relocation) -> Result<(), AllocError>
+        ensures ok { OnOk result (self.new ≡ relocated relocation self.old) }
+        ensures err { OnErr result (self.new ≡ self.old) }
+    {
+        self.relocations.push(relocation)?;
+        Ok(())
+    }
+
     /// Appends contents behind zeros up to their alignment, and answers their offset.
     pub(crate) fn append(&mut self, contents: &[u8], align: u64) -> Result<u128, AllocError>
         requires power { is_power_of_two align ≡ true }
@@ -148,11 +165,49 @@ impl Section {
         ensures ok { OnOk result (self.new ≡ with_contents contents.now align self.old) }
         ensures err { OnErr result (self.new ≡ self.old) }
     {
+        let gap = self.next_offset(align) - self.size;
+        append_padded(&mut self.contents, gap as usize, contents)?;
+        Ok(self.append_room(contents.len() as u64, align))
+    }
+
+    /// Appends zeros of this size behind zeros up to their alignment, and answers their offset.
+    pub(crate) fn append_zeros(&mut self, size: u64, align: u64) -> Result<u128, AllocError>
+        requires power { is_power_of_two align ≡ true }
+        requires bytes { length (self.old).contents ≡ (self.old).size }
+        requires size { (self.old).size < 2 ^ 127 }
+        ensures offset { IfOk result (λ offset. offset ≡ offset_in align self.old) }
+        ensures ok { OnOk result (self.new ≡ with_contents (replicate size 0) align self.old) }
+        ensures err { OnErr result (self.new ≡ self.old) }
+    {
         let offset = self.size.next_multiple_of(u128::from(align));
-        append_padded(&mut self.contents, (offset - self.size) as usize, contents)?;
-        self.size = offset + contents.len() as u128;
+        append_zeros(
+            &mut self.contents,
+            (offset - self.size) as usize,
+            size as usize,
+        )?;
+        Ok(self.append_room(size, align))
+    }
+
+    /// Makes it so much larger behind a gap up to the alignment, without bytes, and answers their offset.
+    pub(crate) fn append_room(&mut self, size: u64, align: u64) -> u128
+        requires power { is_power_of_two align ≡ true }
+        requires size { (self.old).size < 2 ^ 127 }
+        ensures offset { result ≡ offset_in align self.old }
+        ensures room { self.new ≡ with_room size align self.old }
+    {
+        let offset = self.next_offset(align);
+        self.size = offset + u128::from(size);
         self.align = self.align.max(align);
-        Ok(offset)
+        offset
+    }
+
+    // Where contents of this alignment stand behind those that it has.
+    fn next_offset(&self, align: u64) -> u128
+        requires power { is_power_of_two align ≡ true }
+        requires size { (self.now).size < 2 ^ 127 }
+        ensures { result ≡ offset_in align self.now }
+    {
+        self.size.next_multiple_of(u128::from(align))
     }
 }
 

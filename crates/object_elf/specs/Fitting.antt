@@ -1,6 +1,6 @@
 -- Which link tables an ELF file can hold.
 use Rattle.std.specs.Prelude.{◌≡◌, ℕ, ◌+◌, ◌^◌, ◌<◌, ◌≤◌, ◌==◌, ◌⊎◌, false, List, length, slice_get, Some, FitsSigned}
-use Rattle.std.specs.List.{list_any}
+use Rattle.std.specs.List.{list_any, All}
 use Rattle.std.specs.Int.{w64}
 use Rattle.object_core.specs.LinkTable.{ElfTable, ElfTableSection, ElfTableSymbol, ElfRelocation}
 use Rattle.object_elf.specs.Layout.{parts_of, strings_size, section_names, symbol_names, file_length}
@@ -47,3 +47,9 @@ pub record FitsElf (t : ElfTable) : Type 0 where
   pub symbol_names_size : strings_size (symbol_names t) < 2 ^ 32
   pub section_names_size : strings_size (section_names t) < 2 ^ 32
   pub file : file_length t < 2 ^ 64
+
+-- the contents and the names of a table are bytes
+pub record IsOfBytes (t : ElfTable) : Type 0 where
+  pub contents : All (λ (s : ElfTableSection). All (λ x. x < 256) s.contents) t.sections
+  pub section_names : All (λ (s : ElfTableSection). All (λ x. x < 256) s.name) t.sections
+  pub symbol_names : All (λ (s : ElfTableSymbol). All (λ x. x < 256) s.name) t.symbols

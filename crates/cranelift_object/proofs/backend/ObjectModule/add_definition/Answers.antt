@@ -3,7 +3,7 @@ use Rattle.ir_core.specs.Target.{Target, symbol_alignment}
 use Rattle.object_core.specs.Object.{ObjectData}
 use Rattle.cranelift_object.specs.Opened.{OpenModule}
 use Rattle.cranelift_object.specs.Kept.{IsModule}
-use Rattle.cranelift_object.proofs.ObjectLaws.{partial_format, opened_format}
+use Rattle.cranelift_object.proofs.ObjectLaws.{partial_format}
 use Rattle.cranelift_object.proofs.DefineLaws.{adding, opened_undefined, opened_bytes, opened_sum, marks_length, align_power, symbol_in_row, later_is, section_is, adds}
 use Rattle.cranelift_object.proofs.backend.ObjectModule.add_definition.Goals as goal
 
@@ -55,16 +55,6 @@ add_symbol_data-requires-clause-section c =
     let later = later_is c.args.self.now.settings c.args.self.now.state _ _ _ c.function.result c.contents-contents.result.now c.requires.before c.in_ok-section.ensures.opened in
     let place = section_is c.args.self.now.settings c.args.self.now.state _ _ _ c.function.result c.contents-contents.result.now c.requires.before c.in_ok-section.ensures.id in
     rw (later, place) (opened_bytes c.args.self.now _ c.args.number _ h add.found)
-
-pub add_symbol_data-requires-clause-format : goal.add_symbol_data-requires-clause-format
-add_symbol_data-requires-clause-format c =
-    let h = subst (λ (o : OpenModule). IsModule o (record { functions = c.self.inside.defined.items; objects = c.self.inside.defined_objects.items })) c.self.view_is c.self.invariant in
-    let there : c.index-definition.result.now ≡ get_or c.args.self.now.state.definitions c.args.number c.index-definition.result.now =
-    c.index-definition.ensures ∙ ap (λ (o : OpenModule). get_or o.state.definitions c.args.number c.index-definition.result.now) c.self.view_is
-    in
-    let add = adding c.args.self.now _ c.args.number c.function.result c.contents-contents.result.now c.index-definition.result.now h c.requires.number there c.function.ensures c.contents-contents.ensures in
-    let later = later_is c.args.self.now.settings c.args.self.now.state _ _ _ c.function.result c.contents-contents.result.now c.requires.before c.in_ok-section.ensures.opened in
-    ap (λ (o : ObjectData). o.format) later ∙ opened_format c.args.self.now.settings c.args.self.now.state _ _ ∙ h.begun.format
 
 pub add_symbol_data-requires-clause-sum : goal.add_symbol_data-requires-clause-sum
 add_symbol_data-requires-clause-sum c =
