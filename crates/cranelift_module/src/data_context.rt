@@ -23,7 +23,7 @@ pub enum Init {
 }
 
 impl Init {
-    ghost use Rattle.std.specs.Prelude.{Some, option_map, IsSome, IfOk, is_none};
+    ghost use Rattle.std.specs.Prelude.{◌<◌, ◌^◌, Some, option_map, IsSome, IfSome, IfOk, is_none};
     ghost use Rattle.cranelift_module.specs.Definitions.{size_of};
     ghost use Rattle.cranelift_module.specs.Init.{init_view};
 
@@ -48,7 +48,8 @@ impl Init {
 
     /// An equal one. Zeros take no memory.
     pub fn copy(&self) -> Result<Init, AllocError>
-        ensures { IfOk result (λ init. init_view init ≡ init_view self.now) }
+        ensures equal { IfOk result (λ init. init_view init ≡ init_view self.now) }
+        ensures sized { IfOk result (λ init. IfSome (init_view init) (λ contents. size_of contents < 2 ^ 64)) }
     {
         match self {
             Init::Uninitialized => Ok(Init::Uninitialized),
