@@ -7,9 +7,11 @@
 mod fields;
 mod form_error;
 mod items;
+mod write;
 
 pub use fields::{
     has_keys_within, hex_at, items_at, mark_at, mark_or, number_at, text_at, u32_at, value_at,
 };
 pub use form_error::FormError;
 pub use items::{has_item, number_in, number_of, u32_in};
+pub use write::{NumberMember, hex_or_null, number_or_null, numbers_object, numbers_value};

@@ -12,7 +12,8 @@ use Rattle.objtool_run.specs.Words.{request_of}
 use Rattle.objtool_run.specs.declared.words.Request.{Request}
 use Rattle.objtool_run.specs.declared.words.Request.TheVariants.{Build, Names, Ask}
 use Rattle.objtool_run.specs.declared.words.Query.{Query}
-use Rattle.objtool_run.specs.Query.{Reply, told, refusal, reply_of, IsTold, IsRefusedQuery, IsUnreadQuery, ExplainsQuery, JudgesQuery, IsAnswered, IsToldLine, IsRefusalLine}
+use Rattle.json_form.specs.Reply.{Reply, told, refusal}
+use Rattle.objtool_run.specs.Query.{reply_of, IsTold, IsRefusedQuery, IsUnreadQuery, ExplainsQuery, JudgesQuery, IsAnswered, IsToldLine, IsRefusalLine}
 use Rattle.objtool_run.specs.Fault.{line}
 use Rattle.objtool_run.specs.declared.fault.Fault.{Fault}
 use Rattle.objtool_run.specs.declared.fault.Fault.TheVariants.{Refused, BadWords, ReadFailed, WriteFailed, OutOfMemory, NotUnderstood, TooLong, NotYet}

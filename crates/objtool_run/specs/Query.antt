@@ -6,17 +6,13 @@ use Rattle.cranelift_module.specs.Declarations.{DeclarationLists}
 use Rattle.cranelift_module.specs.DeclarationJson.{value_of, from_json}
 use Rattle.cranelift_module.specs.JsonTexts.{json_cause_text}
 use Rattle.cranelift_module.specs.declared.declaration_json.cause.JsonCause.{JsonCause}
+use Rattle.json_form.specs.Reply.{Reply, told, refusal}
 use Rattle.objtool_run.specs.Fault.{line}
 use Rattle.objtool_run.specs.Script.{HasJson}
 use Rattle.objtool_run.specs.declared.fault.Fault.{Fault}
 use Rattle.objtool_run.specs.declared.fault.Fault.TheVariants.{Refused, BadWords, ReadFailed, WriteFailed, OutOfMemory, NotUnderstood, TooLong, NotYet}
 use Rattle.objtool_run.specs.declared.words.Query.{Query}
 use Rattle.objtool_run.specs.declared.words.Query.TheVariants.{Declarations}
-
--- a library answers with a text, or refuses the value by a text
-pub data Reply : Type 0 where
-  told : List ℕ → Reply
-  refusal : List ℕ → Reply
 
 -- declarations are written again, or their first cause is told
 abbrev pub declarations_reply : Result DeclarationLists JsonCause → Reply

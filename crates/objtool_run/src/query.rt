@@ -8,7 +8,8 @@ ghost use Rattle.cranelift_module.specs.DeclarationJson.{value_of};
 ghost use Rattle.serde_json.specs.Written.{compact_text};
 ghost use Rattle.objtool_run.specs.declared.fault.Fault.TheVariants.{OutOfMemory};
 ghost use Rattle.objtool_run.specs.Fault.{line};
-ghost use Rattle.objtool_run.specs.Query.{reply_of, refusal, IsToldLine, FaultTells, IsTold, ExplainsQuery};
+ghost use Rattle.json_form.specs.Reply.{refusal};
+ghost use Rattle.objtool_run.specs.Query.{reply_of, IsToldLine, FaultTells, IsTold, ExplainsQuery};
 ghost use Rattle.objtool_run.specs.Run.{IsOfInput};
 ghost use Rattle.objtool_run.specs.declared.words.Query.TheVariants.{Declarations};
 
