@@ -12,7 +12,7 @@ use Rattle.cranelift_module.specs.declared.linkage.Linkage.{Linkage}
 use Rattle.cranelift_object.specs.Commands.{IsPlainCall}
 use Rattle.image_build.specs.Built.{BuildPart}
 use Rattle.image_build.specs.Parts.{IsBuildable}
-use Rattle.objtool_run.specs.Form.{◌>>=◌, each_of, text_at, items_at, u32_at, mark_at, hex_at, has_keys_within}
+use Rattle.json_form.specs.Form.{◌>>=◌, each_of, text_at, items_at, u32_at, mark_or, hex_at, has_keys_within}
 use Rattle.objtool_run.specs.SignatureForm.{signature_at}
 use Rattle.objtool_run.specs.Script.{linkage_of, declare_of, anonymous_of, declare_data_of, anonymous_data_of, define_of, command_of, commands_of, elf_target, part_of, part_with, one_part, parts_of, HasFewCalls}
 
@@ -62,7 +62,7 @@ data_plain (Some name) (Some text) w t c h = go (linkage_of text) w t h where
 declare_data_plain : (d : Data) (c : Call) → declare_data_of d ≡ Some c → IsPlainCall c
 unfolding declare_data_of
 declare_data_plain d c h =
-    data_plain (text_at (codes "name") d) (text_at (codes "linkage") d) (mark_at (codes "writable") d) (mark_at (codes "tls") d) c
+    data_plain (text_at (codes "name") d) (text_at (codes "linkage") d) (mark_or (codes "writable") false d) (mark_or (codes "tls") false d) c
     (tested (has_keys_within (codes "op" ∷ codes "name" ∷ codes "linkage" ∷ codes "writable" ∷ codes "tls" ∷ []) d) _ c h)
 
 unnamed_data_plain : (w t : Option Bool) (c : Call) → (w >>= λ writable. t >>= λ tls. Some (declare_anonymous_data writable tls)) ≡ Some c → IsPlainCall c
@@ -72,7 +72,7 @@ unnamed_data_plain (Some w) (Some t) c h = let same : declare_anonymous_data w t
 
 anonymous_data_plain : (d : Data) (c : Call) → anonymous_data_of d ≡ Some c → IsPlainCall c
 unfolding anonymous_data_of
-anonymous_data_plain d c h = unnamed_data_plain (mark_at (codes "writable") d) (mark_at (codes "tls") d) c (tested (has_keys_within (codes "op" ∷ codes "writable" ∷ codes "tls" ∷ []) d) _ c h)
+anonymous_data_plain d c h = unnamed_data_plain (mark_or (codes "writable") false d) (mark_or (codes "tls") false d) c (tested (has_keys_within (codes "op" ∷ codes "writable" ∷ codes "tls" ∷ []) d) _ c h)
 
 defined_plain : (o : Option ℕ) (p : Option (List ℕ)) (c : Call) → (o >>= λ id. p >>= λ bytes. Some (define_function id 1 bytes [])) ≡ Some c → IsPlainCall c
 defined_plain None p c h = absurd (cc)

@@ -1,8 +1,8 @@
 -- The value of declarations has no float, so its text is exact.
-use Rattle.std.proofs.Common.{◌≡◌, ℕ, Bool, true, false, ◌||◌, List, [], ◌∷◌, map, Option, Some, None, refl, ap, ◌∙◌}
-use Rattle.serde_json.specs.Data.{Data, Items, no_items, item}
+use Rattle.std.proofs.Common.{◌≡◌, ℕ, false, List, [], ◌∷◌, map, Option, Some, None, refl, ap, ◌∙◌}
+use Rattle.serde_json.specs.Data.{Data}
 use Rattle.serde_json.specs.View.{items_of}
-use Rattle.serde_json.specs.Written.{has_float, items_have_float, members_have_float, compact_text}
+use Rattle.serde_json.specs.Written.{has_float, items_have_float, compact_text}
 use Rattle.ir_core.specs.Signature.{SignatureData}
 use Rattle.ir_core.specs.declared.signature.AbiParam.{AbiParam}
 use Rattle.cranelift_module.specs.Rows.{FunctionRow, DataRow}

@@ -1,6 +1,5 @@
 pub mod Words
 pub mod Fault
-pub mod Form
 pub mod SignatureForm
 pub mod Script
 pub mod Query

@@ -16,7 +16,7 @@ use Rattle.cranelift_module.specs.Call.{Call, declare_function, declare_anonymou
 use Rattle.cranelift_module.specs.LibraryNames.{usual_texts}
 use Rattle.image_build.specs.Built.{BuildPart, commands, image}
 use Rattle.objtool_run.specs.SignatureForm.{signature_at}
-use Rattle.objtool_run.specs.Form.{◌>>=◌, each_of, text_at, items_at, u32_at, mark_at, hex_at, with_keys}
+use Rattle.json_form.specs.Form.{◌>>=◌, each_of, text_at, items_at, u32_at, mark_or, hex_at, with_keys}
 
 -- -- commands
 
@@ -50,15 +50,15 @@ declare_data_of d = with_keys (codes "op" ∷ codes "name" ∷ codes "linkage" �
   name ← text_at (codes "name") d
   text ← text_at (codes "linkage") d
   linkage ← linkage_of text
-  writable ← mark_at (codes "writable") d
-  tls ← mark_at (codes "tls") d
+  writable ← mark_or (codes "writable") false d
+  tls ← mark_or (codes "tls") false d
   Some (declare_data name linkage writable tls)
 
 -- a declaration of data without a name
 unfoldable pub anonymous_data_of : Data → Option Call
 anonymous_data_of d = with_keys (codes "op" ∷ codes "writable" ∷ codes "tls" ∷ []) d do
-  writable ← mark_at (codes "writable") d
-  tls ← mark_at (codes "tls") d
+  writable ← mark_or (codes "writable") false d
+  tls ← mark_or (codes "tls") false d
   Some (declare_anonymous_data writable tls)
 
 unfoldable pub define_of : Data → Option Call

@@ -3,15 +3,14 @@
 ghost use Rattle.std.specs.Prelude.{◌≡◌, map, [], IfOk};
 ghost use Rattle.serde_json.specs.View.{view, items_view};
 ghost use Rattle.cranelift_object.specs.Command.{command_view};
-ghost use Rattle.objtool_run.specs.Form.{Gives};
+ghost use Rattle.json_form.specs.Form.{Gives};
 ghost use Rattle.objtool_run.specs.Script.{linkage_of, declare_of, anonymous_of, declare_data_of, anonymous_data_of, define_of, command_of, commands_of};
 
-use crate::script::fields::{has_keys_within, hex_at, mark_at, text_at, u32_at};
-use crate::script::form::FormError;
 use crate::script::signature::signature_at;
 use cranelift_module::{FuncId, Linkage};
 use cranelift_object::Command;
 use ir_core::CallConv;
+use json_form::{FormError, has_keys_within, hex_at, mark_or, text_at, u32_at};
 use serde_json::Value;
 use std::alloc::Global;
 
@@ -65,8 +64,8 @@ fn declare_data_of(alloc: Global, value: &Value) -> Result<Command, FormError>
     }
     let name = text_at(value, "name")?;
     let linkage = linkage_of(text_at(value, "linkage")?)?;
-    let writable = mark_at(value, "writable")?;
-    let tls = mark_at(value, "tls")?;
+    let writable = mark_or(value, "writable", false)?;
+    let tls = mark_or(value, "tls", false)?;
     Ok(Command::DeclareData {
         name: String::from_str(alloc, name)?,
         linkage,
@@ -82,8 +81,8 @@ fn anonymous_data_of(value: &Value) -> Result<Command, FormError>
     if !has_keys_within(value, &["op", "writable", "tls"]) {
         return Err(FormError::NotForm);
     }
-    let writable = mark_at(value, "writable")?;
-    let tls = mark_at(value, "tls")?;
+    let writable = mark_or(value, "writable", false)?;
+    let tls = mark_or(value, "tls", false)?;
     Ok(Command::DeclareAnonymousData { writable, tls })
 }
 

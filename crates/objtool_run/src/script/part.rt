@@ -5,18 +5,17 @@ ghost use Rattle.std.specs.List.{All};
 ghost use Rattle.serde_json.specs.View.{view, items_view};
 ghost use Rattle.cranelift_object.specs.Command.{command_view};
 ghost use Rattle.image_build.specs.Parts.{part_view, IsBuildable};
-ghost use Rattle.objtool_run.specs.Form.{Gives};
+ghost use Rattle.json_form.specs.Form.{Gives};
 ghost use Rattle.objtool_run.specs.Script.{elf_target, part_of, part_with, parts_of, commands_of, StandsFor, HasFewCalls};
 ghost use Rattle.objtool_run.specs.Run.{ExplainsBuild, IsOfInput};
 
 use crate::fault::Fault;
 use crate::script::command::commands_of;
-use crate::script::fields::{has_keys_within, items_at, text_at};
-use crate::script::form::FormError;
 use cranelift_module::default_libcall_names;
 use cranelift_object::{Command, CommandPart};
 use image_build::Part;
 use ir_core::{Architecture, BinaryFormat, Environment, System, TargetIsa, Triple};
+use json_form::{FormError, has_keys_within, items_at, text_at};
 use serde_json::Value;
 use std::alloc::{AllocError, Global};
 

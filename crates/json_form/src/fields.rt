@@ -1,17 +1,25 @@
-//! The members of a JSON object, by their keys. Each answers `NotForm` where the value isn't an
-//! object, lacks the key, or has a value of another kind under it.
+//! The members of a JSON object, by their keys. Each answers `NotForm` where the value isn't an object, lacks the key,
+//! or has a value of another kind under it.
 
-ghost use Rattle.std.specs.Prelude.{◌≡◌, map, Some, None, option_map, is_some, string_bytes};
+ghost use Rattle.std.specs.Prelude.{◌≡◌, map, string_bytes};
 ghost use Rattle.std.specs.List.{list_all, list_any};
 ghost use Rattle.std.specs.Str.{bytes_eq};
 ghost use Rattle.std.specs.BTreeMap.{keys as map_keys};
+ghost use Rattle.serde_json.specs.Find.{get};
 ghost use Rattle.serde_json.specs.View.{view, items_view, members_view};
-ghost use Rattle.objtool_run.specs.Form.{Gives, has_keys_within, text_at, number_at, items_at, u32_at, mark_at, hex_at};
+ghost use Rattle.json_form.specs.Form.{Gives, has_keys_within, text_at, number_at, items_at, u32_at, mark_at, mark_or, hex_at};
 
-use crate::script::form::FormError;
+use crate::form_error::FormError;
 use hex::FromHexError;
 use serde_json::{Map, Value};
 use std::alloc::Global;
+
+/// The value under a key.
+pub fn value_at<'a>(value: &'a Value, key: &str) -> Result<&'a Value, FormError>
+    ensures { Gives (λ v. view v.now) result (get key.now (view value.now)) }
+{
+    value.get(key).ok_or(FormError::NotForm)
+}
 
 /// The text under a key.
 pub fn text_at<'a>(value: &'a Value, key: &str) -> Result<&'a str, FormError>
@@ -23,7 +31,7 @@ pub fn text_at<'a>(value: &'a Value, key: &str) -> Result<&'a str, FormError>
         .ok_or(FormError::NotForm)
 }
 
-/// The unsigned integer under a key.
+/// The unsigned integer of at most 64 bits under a key.
 pub fn number_at(value: &Value, key: &str) -> Result<u64, FormError>
     ensures { Gives (λ n. n) result (number_at key.now (view value.now)) }
 {
@@ -43,7 +51,7 @@ pub fn items_at<'a>(value: &'a Value, key: &str) -> Result<&'a Vec<Value>, FormE
         .ok_or(FormError::NotForm)
 }
 
-/// The number of at most 32 bits under a key.
+/// The unsigned integer of at most 32 bits under a key.
 pub fn u32_at(value: &Value, key: &str) -> Result<u32, FormError>
     ensures { Gives (λ n. n) result (u32_at key.now (view value.now)) }
 {
@@ -51,13 +59,23 @@ pub fn u32_at(value: &Value, key: &str) -> Result<u32, FormError>
     u32::try_from(n).map_err(|_| FormError::NotForm)
 }
 
-/// The truth value under a key, or false where the object lacks the key.
+/// The truth value under a key.
 pub fn mark_at(value: &Value, key: &str) -> Result<bool, FormError>
     ensures { Gives (λ b. b) result (mark_at key.now (view value.now)) }
 {
+    value
+        .get(key)
+        .and_then(Value::as_bool)
+        .ok_or(FormError::NotForm)
+}
+
+/// The truth value under a key, or `missing` where the object lacks the key.
+pub fn mark_or(value: &Value, key: &str, missing: bool) -> Result<bool, FormError>
+    ensures { Gives (λ b. b) result (mark_or key.now missing (view value.now)) }
+{
     match value.get(key) {
         Some(mark) => mark.as_bool().ok_or(FormError::NotForm),
-        None => Ok(false),
+        None => Ok(missing),
     }
 }
 
@@ -86,7 +104,7 @@ fn are_among(members: &Map<String, Value>, keys: &[&str]) -> bool
     members.keys().all(|key| is_among(key.as_str(), keys))
 }
 
-/// The value is an object without other keys.
+/// Whether the value is an object without other keys.
 pub fn has_keys_within(value: &Value, keys: &[&str]) -> bool
     ensures { result ≡ has_keys_within (map (λ k. k.now) keys.now) (view value.now) }
 {

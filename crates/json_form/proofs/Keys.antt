@@ -4,7 +4,7 @@ use Rattle.std.specs.List.{list_all, list_any}
 use Rattle.std.specs.Map.{keys_of}
 use Rattle.serde_json.specs.declared.value.Value.{Value}
 use Rattle.serde_json.specs.View.{members_view}
-use Rattle.objtool_run.specs.Form.{keys_within}
+use Rattle.json_form.specs.Form.{keys_within}
 
 -- a slice of texts as a list of texts
 any-now : (key : List ℕ) (keys : List (Bor (List ℕ))) → list_any (λ k. bytes_eq key k.now) keys ≡ list_any (bytes_eq key) (map (λ k. k.now) keys)

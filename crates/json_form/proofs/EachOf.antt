@@ -5,9 +5,9 @@ use Rattle.std.proofs.lemmas.List.{map-append, drop_all}
 use Rattle.serde_json.specs.Data.{Data, Items, item, no_items}
 use Rattle.serde_json.specs.View.{view, items_view}
 use Rattle.serde_json.specs.declared.value.Value.{Value}
-use Rattle.objtool_run.specs.declared.script.form.FormError.{FormError}
-use Rattle.objtool_run.specs.declared.script.form.FormError.TheVariants.{NotForm, OutOfMemory}
-use Rattle.objtool_run.specs.Form.{Fails, each_of, ◌>>=◌}
+use Rattle.json_form.specs.declared.form_error.FormError.{FormError}
+use Rattle.json_form.specs.declared.form_error.FormError.TheVariants.{NotForm, OutOfMemory}
+use Rattle.json_form.specs.Form.{Fails, each_of, ◌>>=◌}
 
 abbrev pub with_front : {A : Type 0} → List A → Option (List A) → Option (List A)
 with_front front rest = option_map (λ more. front ++ more) rest

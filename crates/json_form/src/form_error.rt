@@ -1,7 +1,7 @@
 //! Why a JSON value gives nothing.
 
 ghost use Rattle.std.specs.Prelude.{◌≡◌};
-ghost use Rattle.objtool_run.specs.declared.script.form.FormError.TheVariants.{NotForm, OutOfMemory};
+ghost use Rattle.json_form.specs.declared.form_error.FormError.TheVariants.{NotForm, OutOfMemory};
 
 use std::alloc::{AllocError, AllocFailed};
 
