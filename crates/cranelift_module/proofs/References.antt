@@ -1,5 +1,5 @@
 -- References of a description that lie in range.
-use Rattle.std.proofs.Common.{◌≡◌, ℕ, ℤ, ◌&&◌, Bool, true, false, length, refl}
+use Rattle.std.proofs.Common.{◌≡◌, ◌&&◌, Bool, true, false, length, refl}
 use Rattle.std.specs.List.{list_all}
 use Rattle.cranelift_module.specs.Call.{Description}
 use Rattle.cranelift_module.specs.Init.{is_function_within, is_value_within, are_in_range}

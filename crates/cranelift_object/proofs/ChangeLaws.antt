@@ -1,6 +1,5 @@
 -- Lists with one element changed.
-use Rattle.std.proofs.Common.{◌≡◌, ℕ, zero, suc, ◌<◌, ◌++◌, ◌∷◌, List, [], length, Option, Some, refl, ap, arith}
-use Rattle.std.specs.Prelude.{slice_get, option_map}
+use Rattle.std.proofs.Common.{◌≡◌, ℕ, zero, suc, ◌++◌, ◌∷◌, List, [], length, refl, ap}
 use Rattle.ir_core.specs.Changes.{changed_at}
 
 pub changed_twice : {A : Type 0} (k : ℕ) (f g : A → A) (xs : List A) → changed_at k f (changed_at k g xs) ≡ changed_at k (λ x. f (g x)) xs

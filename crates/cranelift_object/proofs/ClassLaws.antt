@@ -1,5 +1,5 @@
 -- The numbers of sections, and the places of definitions in them.
-use Rattle.std.proofs.Common.{◌≡◌, ℕ, zero, suc, ◌+◌, ◌==◌, ◌<◌, ◌≤◌, ◌++◌, ◌∷◌, List, [], Bool, true, false, not, ◌||◌, cond, length, map, Option, Some, None, refl, ap, sym, ◌∙◌, subst, ◌≢◌, arith, length-append, inl, inr, filter}
+use Rattle.std.proofs.Common.{◌≡◌, ℕ, zero, suc, ◌+◌, ◌==◌, ◌<◌, ◌≤◌, ◌++◌, ◌∷◌, List, [], Bool, true, false, not, ◌||◌, cond, length, map, Option, Some, None, refl, ap, sym, ◌∙◌, subst, arith, length-append, inl, inr, filter}
 use Rattle.std.proofs.lemmas.List.{append-nil, map-append}
 use Rattle.std.proofs.lemmas.Bool.Decides.{eqb_tells}
 use Rattle.std.proofs.lemmas.Bool.{cases_Bool}

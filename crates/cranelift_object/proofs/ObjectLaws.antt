@@ -1,9 +1,9 @@
 -- The object of a state, one definition after the other.
-use Rattle.std.proofs.Common.{◌≡◌, ℕ, zero, suc, ◌+◌, ◌<◌, ◌++◌, ◌∷◌, List, [], Bool, true, false, length, map, Option, Some, None, refl, ap, sym, ◌∙◌, arith, ◌≢◌}
+use Rattle.std.proofs.Common.{◌≡◌, ℕ, zero, suc, ◌+◌, ◌++◌, ◌∷◌, List, [], Bool, true, false, length, map, Option, Some, None, refl, ap, sym, ◌∙◌, arith, ◌≢◌}
 use Rattle.std.proofs.lemmas.List.{map-append}
 use Rattle.std.proofs.lemmas.List.Sums.{sum_by_push}
 use Rattle.std.proofs.lemmas.List.Elements.{All-map}
-use Rattle.std.specs.Prelude.{slice_get, option_map, unwrap_or, sum_by}
+use Rattle.std.specs.Prelude.{slice_get, option_map, unwrap_or}
 use Rattle.std.specs.List.{All}
 use Rattle.std.specs.Int.{next_multiple_of}
 use Rattle.object_core.specs.declared.symbol.Symbol.{Symbol}

@@ -83,7 +83,7 @@ impl ObjectModule {
     }
 
     // Whether a data object is writable by its declarations so far.
-    fn is_writable(&self, object: DataId) -> bool
+    pub(crate) fn is_writable(&self, object: DataId) -> bool
         ensures { result ≡ is_writable (slice_get (self.now).state.objects object) }
     {
         match self.declarations.data(object) {

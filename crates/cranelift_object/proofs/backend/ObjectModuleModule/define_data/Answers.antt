@@ -2,10 +2,8 @@ use Rattle.std.proofs.Common.{◌≡◌, ◌<◌, ◌++◌, ◌∷◌, [], false
 use Rattle.std.specs.Prelude.{unwrap_or}
 use Rattle.ir_core.specs.Target.{Target}
 use Rattle.cranelift_module.specs.Call.{Contents, bytes}
-use Rattle.cranelift_module.specs.Definitions.{relocs_of, is_writable}
 use Rattle.cranelift_module.specs.Refusal.{bad_reloc_from, bytes_in, is_defined}
 use Rattle.cranelift_module.specs.declared.identifiers.FuncOrDataId.TheVariants.{Data}
-use Rattle.cranelift_module.specs.declared.reloc.ModuleReloc.{ModuleReloc}
 use Rattle.cranelift_object.specs.Opened.{OpenModule}
 use Rattle.cranelift_object.proofs.KeptLaws.{kept_body_data}
 use Rattle.cranelift_object.proofs.CallLaws.{refused_call, accepted_call, data_cause, tells_first, tells_second, both_none, step_data, data_body, data_declared, data_free, described_range, judged_in_hand}
