@@ -1,6 +1,7 @@
 pub mod Words
 pub mod Fault
 pub mod SignatureForm
+pub mod DefinitionForm
 pub mod Script
 pub mod Query
 pub mod Run

@@ -4,13 +4,14 @@ ghost use Rattle.std.specs.Prelude.{◌≡◌, map, [], IfOk};
 ghost use Rattle.serde_json.specs.View.{view, items_view};
 ghost use Rattle.cranelift_object.specs.Command.{command_view};
 ghost use Rattle.json_form.specs.Form.{Gives};
-ghost use Rattle.objtool_run.specs.Script.{linkage_of, declare_of, anonymous_of, declare_data_of, anonymous_data_of, define_of, command_of, commands_of};
+ghost use Rattle.objtool_run.specs.Script.{linkage_of, declare_of, anonymous_of, declare_data_of, anonymous_data_of, command_of, commands_of};
 
+use crate::script::definition::{define_data_of, define_of};
 use crate::script::signature::signature_at;
-use cranelift_module::{FuncId, Linkage};
+use cranelift_module::Linkage;
 use cranelift_object::Command;
 use ir_core::CallConv;
-use json_form::{FormError, has_keys_within, hex_at, mark_or, text_at, u32_at};
+use json_form::{FormError, has_keys_within, mark_or, text_at};
 use serde_json::Value;
 use std::alloc::Global;
 
@@ -86,23 +87,6 @@ fn anonymous_data_of(value: &Value) -> Result<Command, FormError>
     Ok(Command::DeclareAnonymousData { writable, tls })
 }
 
-#[tactic(auto, unfolding(crate::specs::Script::define_of))]
-fn define_of(alloc: Global, value: &Value) -> Result<Command, FormError>
-    ensures { Gives command_view result (define_of (view value.now)) }
-{
-    if !has_keys_within(value, &["op", "id", "bytes"]) {
-        return Err(FormError::NotForm);
-    }
-    let id = u32_at(value, "id")?;
-    let bytes = hex_at(alloc, value, "bytes")?;
-    Ok(Command::DefineFunction {
-        id: FuncId::from_u32(id),
-        align: 1,
-        bytes,
-        relocs: Vec::new(alloc),
-    })
-}
-
 #[tactic(auto, unfolding(crate::specs::Script::command_of))]
 fn command_of(alloc: Global, convention: CallConv, value: &Value) -> Result<Command, FormError>
     ensures { Gives command_view result (command_of convention (view value.now)) }
@@ -113,6 +97,7 @@ fn command_of(alloc: Global, convention: CallConv, value: &Value) -> Result<Comm
         "declare_data" => declare_data_of(alloc, value),
         "declare_anonymous_data" => anonymous_data_of(value),
         "define_function" => define_of(alloc, value),
+        "define_data" => define_data_of(alloc, value),
         _ => Err(FormError::NotForm),
     }
 }
