@@ -21,7 +21,7 @@ use Rattle.image_build.specs.Built.{BuildPart}
 use Rattle.image_build.specs.Parts.{IsBuildable}
 use Rattle.json_form.specs.Form.{◌>>=◌, each_of, or_else, number_of, text_at, items_at, u32_at, mark_or, hex_at, has_keys_within}
 use Rattle.objtool_run.specs.SignatureForm.{signature_at}
-use Rattle.objtool_run.specs.DefinitionForm.{target_of, kind_of, signed_of, reloc_of, list_at, relocs_at, targets_at, function_addresses_at, data_addresses_at, define_of, contents_at, align_at, section_at, definition_keys, define_data_of}
+use Rattle.objtool_run.specs.DefinitionForm.{target_of, kind_of, signed_of, reloc_of, IsAppended, list_at, relocs_at, targets_at, function_addresses_at, data_addresses_at, define_of, contents_at, align_at, section_at, definition_keys, define_data_of}
 use Rattle.objtool_run.specs.Script.{linkage_of, declare_of, anonymous_of, declare_data_of, anonymous_data_of, command_of, commands_of, elf_target, part_of, part_with, one_part, parts_of, HasFewCalls}
 
 -- what two steps give, the second gives of what the first gave
@@ -81,6 +81,14 @@ unnamed_data_plain (Some w) (Some t) c h = let same : declare_anonymous_data w t
 anonymous_data_plain : (d : Data) (c : Call) → anonymous_data_of d ≡ Some c → IsPlainCall c
 unfolding anonymous_data_of
 anonymous_data_plain d c h = unnamed_data_plain (mark_or (codes "writable") false d) (mark_or (codes "tls") false d) c (tested (has_keys_within (codes "op" ∷ codes "writable" ∷ codes "tls" ∷ []) d) _ c h)
+
+-- what was read and appended
+pub appended : {A : Type 0} (old new : List A) (o : Option A) → IsAppended old new o → (x : A) × (o ≡ Some x) × (new ≡ old ++ x ∷ [])
+appended old new None h = absurd h
+appended old new (Some x) h = (x, refl, h)
+
+some_same : {A : Type 0} (x y : A) → Some x ≡ Some y → x ≡ y
+some_same x y h = cc
 
 -- what holds of each value that is read holds of all
 each_all : {A : Type 0} (P : A → Type 0) (read : Data → Option A) → ((d : Data) (x : A) → read d ≡ Some x → P x) → (ds : Items) (xs : List A) → each_of read ds ≡ Some xs → All P xs
@@ -174,7 +182,7 @@ define_data_plain d c h =
       used = used.0;
     }
     in
-    let same : define_data i.0 desc ≡ c = cc in
+    let same : define_data i.0 desc ≡ c = some_same (define_data i.0 desc) c data_addresses.2 in
     subst IsPlainCall same (description_user desc (targets_user (codes "functions") d functions.0 functions.1) (targets_user (codes "data") d objects.0 objects.1))
 
 chosen_plain : (x y z w u t : Bool) (v : CallConv) (d : Data) (c : Call)

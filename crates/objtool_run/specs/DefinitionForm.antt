@@ -1,5 +1,5 @@
 -- Definitions in JSON: their contents, relocations and references.
-use Rattle.std.specs.Prelude.{ℕ, ℤ, pos, Bool, true, false, List, [], ◌∷◌, codes, if◌then◌else◌, Option, Some, None, is_some, option_map, option_and_then}
+use Rattle.std.specs.Prelude.{◌≡◌, ℕ, ℤ, pos, Bool, true, false, List, [], ◌∷◌, ◌++◌, codes, if◌then◌else◌, Option, Some, None, is_some, option_map, option_and_then}
 use Rattle.std.specs.Str.{bytes_eq}
 use Rattle.serde_json.specs.Data.{Data, Items, no_items}
 use Rattle.serde_json.specs.Find.{get, at, as_str, as_number, as_i64, as_array}
@@ -16,7 +16,7 @@ use Rattle.json_form.specs.Form.{◌>>=◌, each_of, or_else, number_of, number_
 -- a function or a data object by its number
 abbrev pub target_of : Data → Option ModuleRelocTarget
 target_of d =
-    if has_keys_within (codes "function" ∷ []) d then u32_at (codes "function") d >>= λ n. Some (User 0 n)
+    if has_keys_within (codes "function" ∷ []) d then (u32_at (codes "function") d >>= λ n. Some (User 0 n))
     else with_keys (codes "data" ∷ []) d (u32_at (codes "data") d >>= λ n. Some (User 1 n))
 
 -- the kinds that are built so far: absolute of 8 bytes, PC-relative of 4
@@ -26,6 +26,10 @@ kind_of text = if bytes_eq text (codes "Abs8") then Some Abs8 else if bytes_eq t
 -- a signed integer of at most 64 bits
 abbrev pub signed_of : Data → Option ℤ
 signed_of d = option_and_then as_i64 (as_number d)
+
+-- the signed integer at a place of a list
+abbrev pub signed_in : ℕ → Data → Option ℤ
+signed_in place d = option_and_then as_i64 (option_and_then as_number (at place d))
 
 -- a relocation; without an addend it has 0
 unfoldable pub reloc_of : Data → Option ModuleReloc
@@ -37,6 +41,11 @@ reloc_of d = with_keys (codes "offset" ∷ codes "kind" ∷ codes "target" ∷ c
   target ← target_of value
   addend ← or_else signed_of (pos 0) (get (codes "addend") d)
   Some (record { offset = offset; kind = kind; name = target; addend = addend })
+
+-- what was read stands behind what was there
+abbrev pub IsAppended : {A : Type 0} → List A → List A → Option A → Type 0
+IsAppended old new None = ⊥
+IsAppended old new (Some x) = new ≡ old ++ x ∷ []
 
 -- where the address of a function is written: an offset and a reference
 unfoldable pub function_address_of : Data → Option (ℕ × ℕ)
@@ -50,8 +59,7 @@ unfoldable pub data_address_of : Data → Option (ℕ × ℕ × ℤ)
 data_address_of d = ended_before 3 d do
   offset ← u32_in 0 d
   reference ← u32_in 1 d
-  value ← at 2 d
-  addend ← signed_of value
+  addend ← signed_in 2 d
   Some (offset, reference, addend)
 
 -- the values of the list under a key, none where there is no such key

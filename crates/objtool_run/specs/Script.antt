@@ -62,6 +62,10 @@ anonymous_data_of d = with_keys (codes "op" ∷ codes "writable" ∷ codes "tls"
   tls ← mark_or (codes "tls") false d
   Some (declare_anonymous_data writable tls)
 
+-- a definition by its `op`
+abbrev pub definition_by : List ℕ → Data → Option Call
+definition_by op d = if bytes_eq op (codes "define_function") then define_of d else if bytes_eq op (codes "define_data") then define_data_of d else None
+
 -- a command by its `op`
 unfoldable pub command_of : CallConv → Data → Option Call
 command_of convention d = do
@@ -70,9 +74,7 @@ command_of convention d = do
       else if bytes_eq op (codes "declare_anonymous_function") then anonymous_of convention d
       else if bytes_eq op (codes "declare_data") then declare_data_of d
       else if bytes_eq op (codes "declare_anonymous_data") then anonymous_data_of d
-      else if bytes_eq op (codes "define_function") then define_of d
-      else if bytes_eq op (codes "define_data") then define_data_of d
-      else None
+      else definition_by op d
 
 -- the commands of a list
 abbrev pub commands_of : CallConv → Items → Option (List Call)

@@ -1,12 +1,12 @@
 //! Definitions, each an object of the list `commands`: their contents, relocations and references.
 
-ghost use Rattle.std.specs.Prelude.{◌≡◌, ◌<◌, ◌+◌, ◌++◌, pos, length, codes, None, OnOk, option_map, option_copied};
-ghost use Rattle.serde_json.specs.Find.{get, at};
+ghost use Rattle.std.specs.Prelude.{◌≡◌, ◌<◌, ◌+◌, ◌++◌, [], pos, length, codes, None, OnOk, IfErr, option_map, option_copied};
+ghost use Rattle.serde_json.specs.Find.{get};
 ghost use Rattle.serde_json.specs.View.{view, items_view};
 ghost use Rattle.cranelift_module.specs.Init.{init_view, no_description};
 ghost use Rattle.cranelift_object.specs.Command.{command_view};
-ghost use Rattle.json_form.specs.Form.{Gives, each_of, or_else, number_of, has_keys_within, ◌>>=◌};
-ghost use Rattle.objtool_run.specs.DefinitionForm.{target_of, kind_of, signed_of, reloc_of, function_address_of, data_address_of, list_at, define_of, contents_at, align_at, section_at, definition_keys, define_data_of};
+ghost use Rattle.json_form.specs.Form.{Gives, Fails, each_of, or_else, number_of, has_keys_within};
+ghost use Rattle.objtool_run.specs.DefinitionForm.{target_of, kind_of, signed_of, signed_in, reloc_of, IsAppended, function_address_of, data_address_of, list_at, define_of, contents_at, align_at, section_at, definition_keys, define_data_of};
 
 use cranelift_module::{DataDescription, DataId, FuncId, Init, ModuleReloc, ModuleRelocTarget};
 use cranelift_object::Command;
@@ -64,26 +64,6 @@ fn addend_at(value: &Value) -> Result<i64, FormError>
     }
 }
 
-/// A relocation.
-#[tactic(auto, unfolding(crate::specs::DefinitionForm::reloc_of))]
-fn reloc_of(value: &Value) -> Result<ModuleReloc, FormError>
-    ensures { Gives (λ r. r) result (reloc_of (view value.now)) }
-{
-    if !has_keys_within(value, &["offset", "kind", "target", "addend"]) {
-        return Err(FormError::NotForm);
-    }
-    let offset = u32_at(value, "offset")?;
-    let kind = kind_of(text_at(value, "kind")?)?;
-    let name = target_of(value_at(value, "target")?)?;
-    let addend = addend_at(value)?;
-    Ok(ModuleReloc {
-        offset,
-        kind,
-        name,
-        addend,
-    })
-}
-
 /// Where the address of a function is written.
 #[tactic(auto, unfolding(crate::specs::DefinitionForm::function_address_of))]
 fn function_address_of(value: &Value) -> Result<(u32, u32), FormError>
@@ -97,14 +77,14 @@ fn function_address_of(value: &Value) -> Result<(u32, u32), FormError>
     Ok((offset, reference))
 }
 
-/// The addend of a data object's address.
-fn addend_in(value: &Value) -> Result<i64, FormError>
-    ensures { Gives (λ z. z) result (at 2 (view value.now) >>= λ v. signed_of v) }
+/// The signed integer of at most 64 bits at a place of a list.
+fn signed_in(value: &Value, place: usize) -> Result<i64, FormError>
+    ensures { Gives (λ z. z) result (signed_in place (view value.now)) }
 {
-    match value.get(2usize) {
-        Some(addend) => signed_of(addend),
-        None => Err(FormError::NotForm),
-    }
+    value
+        .get(place)
+        .and_then(Value::as_i64)
+        .ok_or(FormError::NotForm)
 }
 
 /// Where the address of a data object is written.
@@ -117,7 +97,7 @@ fn data_address_of(value: &Value) -> Result<(u32, u32, i64), FormError>
     }
     let offset = u32_in(value, 0)?;
     let reference = u32_in(value, 1)?;
-    let addend = addend_in(value)?;
+    let addend = signed_in(value, 2)?;
     Ok((offset, reference, addend))
 }
 
@@ -139,13 +119,44 @@ fn relocs_in(alloc: Global, values: &[Value]) -> Result<Vec<ModuleReloc>, FormEr
     ensures { Gives (λ v. v.items) result (each_of reloc_of (items_view values.now)) }
 {
     let mut relocs = Vec::new(alloc);
+    push_relocs(&mut relocs, values)?;
+    Ok(relocs)
+}
+
+/// Appends the relocations of a list where nothing is yet.
+fn push_relocs(relocs: &mut Vec<ModuleReloc>, values: &[Value]) -> Result<(), FormError>
+    requires { relocs.old.items ≡ [] }
+    ensures { Gives (λ done. relocs.new.items) result (each_of reloc_of (items_view values.now)) }
+{
     for value in values {
-        match reloc_of(value) {
-            Ok(reloc) => relocs.push(reloc)?,
+        match push_reloc(relocs, value) {
+            Ok(()) => {}
             Err(error) => return Err(error),
         }
     }
-    Ok(relocs)
+    Ok(())
+}
+
+/// Appends a relocation.
+#[tactic(auto, unfolding(crate::specs::DefinitionForm::reloc_of))]
+fn push_reloc(relocs: &mut Vec<ModuleReloc>, value: &Value) -> Result<(), FormError>
+    ensures ok { OnOk result (IsAppended relocs.old.items relocs.new.items (reloc_of (view value.now))) }
+    ensures err { IfErr result (λ e. Fails e (reloc_of (view value.now))) }
+{
+    if !has_keys_within(value, &["offset", "kind", "target", "addend"]) {
+        return Err(FormError::NotForm);
+    }
+    let offset = u32_at(value, "offset")?;
+    let kind = kind_of(text_at(value, "kind")?)?;
+    let name = target_of(value_at(value, "target")?)?;
+    let addend = addend_at(value)?;
+    relocs.push(ModuleReloc {
+        offset,
+        kind,
+        name,
+        addend,
+    })?;
+    Ok(())
 }
 
 /// The targets of a list.
