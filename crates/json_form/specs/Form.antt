@@ -1,5 +1,5 @@
 -- Reading a form from a JSON value: what it gives, or none. Memory may run out instead.
-use Rattle.std.specs.Prelude.{◌≡◌, ℕ, ◌^◌, ◌&&◌, nat_lt, Bool, true, false, List, [], ◌∷◌, if◌then◌else◌, Option, Some, None, is_some, option_and_then, Result, Ok, Err}
+use Rattle.std.specs.Prelude.{◌≡◌, ℕ, ◌^◌, ◌&&◌, nat_lt, Bool, true, false, List, [], ◌∷◌, if◌then◌else◌, Option, Some, None, is_some, option_map, option_and_then, Result, Ok, Err}
 use Rattle.std.specs.List.{list_any}
 use Rattle.std.specs.Option.{option_map_or}
 use Rattle.std.specs.Result.{result_ok}
@@ -56,7 +56,7 @@ or_else read missing (Some d) = read d
 
 -- none where the value is null, else what is read from it
 abbrev pub unless_null : {A : Type 0} → (Data → Option A) → Data → Option (Option A)
-unless_null read d = if is_some (as_null d) then Some None else (read d >>= λ a. Some (Some a))
+unless_null read d = if is_some (as_null d) then Some None else option_map (λ a. Some a) (read d)
 
 -- the text, the number, the list, the truth value under a key
 abbrev pub text_at : List ℕ → Data → Option (List ℕ)
@@ -70,6 +70,14 @@ items_at key d = option_and_then as_array (get key d)
 
 abbrev pub mark_at : List ℕ → Data → Option Bool
 mark_at key d = option_and_then as_bool (get key d)
+
+-- a text, or none where the value is null
+abbrev pub text_or_null : Data → Option (Option (List ℕ))
+text_or_null d = unless_null as_str d
+
+-- the text under a key, or none where null is there
+abbrev pub name_at : List ℕ → Data → Option (Option (List ℕ))
+name_at key d = get key d >>= λ value. text_or_null value
 
 -- the number of 32 bits under a key
 abbrev pub u32_at : List ℕ → Data → Option ℕ

@@ -1,13 +1,13 @@
 //! The members of a JSON object, by their keys. Each answers `NotForm` where the value isn't an object, lacks the key,
 //! or has a value of another kind under it.
 
-ghost use Rattle.std.specs.Prelude.{◌≡◌, map, string_bytes};
+ghost use Rattle.std.specs.Prelude.{◌≡◌, map, option_map, string_bytes};
 ghost use Rattle.std.specs.List.{list_all, list_any};
 ghost use Rattle.std.specs.Str.{bytes_eq};
 ghost use Rattle.std.specs.BTreeMap.{keys as map_keys};
 ghost use Rattle.serde_json.specs.Find.{get};
 ghost use Rattle.serde_json.specs.View.{view, items_view, members_view};
-ghost use Rattle.json_form.specs.Form.{Gives, has_keys_within, text_at, number_at, items_at, u32_at, mark_at, mark_or, hex_at};
+ghost use Rattle.json_form.specs.Form.{Gives, has_keys_within, text_at, number_at, items_at, u32_at, mark_at, mark_or, text_or_null, name_at, hex_at};
 
 use crate::form_error::FormError;
 use hex::FromHexError;
@@ -76,6 +76,29 @@ pub fn mark_or(value: &Value, key: &str, missing: bool) -> Result<bool, FormErro
     match value.get(key) {
         Some(mark) => mark.as_bool().ok_or(FormError::NotForm),
         None => Ok(missing),
+    }
+}
+
+/// The text that a value is, or none where it is null.
+fn text_or_null(alloc: Global, value: &Value) -> Result<Option<String>, FormError>
+    ensures { Gives (option_map string_bytes) result (text_or_null (view value.now)) }
+{
+    if value.is_null() {
+        return Ok(None);
+    }
+    match value.as_str() {
+        Some(text) => Ok(Some(String::from_str(alloc, text)?)),
+        None => Err(FormError::NotForm),
+    }
+}
+
+/// The text under a key, or none where null is there.
+pub fn name_at(alloc: Global, value: &Value, key: &str) -> Result<Option<String>, FormError>
+    ensures { Gives (option_map string_bytes) result (name_at key.now (view value.now)) }
+{
+    match value.get(key) {
+        Some(name) => text_or_null(alloc, name),
+        None => Err(FormError::NotForm),
     }
 }
 

@@ -10,7 +10,8 @@ mod items;
 mod write;
 
 pub use fields::{
-    has_keys_within, hex_at, items_at, mark_at, mark_or, number_at, text_at, u32_at, value_at,
+    has_keys_within, hex_at, items_at, mark_at, mark_or, name_at, number_at, text_at, u32_at,
+    value_at,
 };
 pub use form_error::FormError;
 pub use items::{has_item, number_in, number_of, u32_in};
