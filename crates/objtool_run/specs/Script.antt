@@ -66,15 +66,20 @@ anonymous_data_of d = with_keys (codes "op" ∷ codes "writable" ∷ codes "tls"
 abbrev pub definition_by : List ℕ → Data → Option Call
 definition_by op d = if bytes_eq op (codes "define_function") then define_of d else if bytes_eq op (codes "define_data") then define_data_of d else None
 
+-- a command over data, or a definition, by its `op`
+abbrev pub data_command_by : List ℕ → Data → Option Call
+data_command_by op d =
+    if bytes_eq op (codes "declare_data") then declare_data_of d
+    else if bytes_eq op (codes "declare_anonymous_data") then anonymous_data_of d
+    else definition_by op d
+
 -- a command by its `op`
 unfoldable pub command_of : CallConv → Data → Option Call
 command_of convention d = do
   op ← text_at (codes "op") d
   if bytes_eq op (codes "declare_function") then declare_of convention d
       else if bytes_eq op (codes "declare_anonymous_function") then anonymous_of convention d
-      else if bytes_eq op (codes "declare_data") then declare_data_of d
-      else if bytes_eq op (codes "declare_anonymous_data") then anonymous_data_of d
-      else definition_by op d
+      else data_command_by op d
 
 -- the commands of a list
 abbrev pub commands_of : CallConv → Items → Option (List Call)

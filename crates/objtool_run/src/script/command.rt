@@ -4,7 +4,7 @@ ghost use Rattle.std.specs.Prelude.{◌≡◌, map, [], IfOk};
 ghost use Rattle.serde_json.specs.View.{view, items_view};
 ghost use Rattle.cranelift_object.specs.Command.{command_view};
 ghost use Rattle.json_form.specs.Form.{Gives};
-ghost use Rattle.objtool_run.specs.Script.{linkage_of, declare_of, anonymous_of, declare_data_of, anonymous_data_of, definition_by, command_of, commands_of};
+ghost use Rattle.objtool_run.specs.Script.{linkage_of, declare_of, anonymous_of, declare_data_of, anonymous_data_of, definition_by, data_command_by, command_of, commands_of};
 
 use crate::script::definition::{define_data_of, define_of};
 use crate::script::signature::signature_at;
@@ -94,6 +94,14 @@ fn command_of(alloc: Global, convention: CallConv, value: &Value) -> Result<Comm
     match text_at(value, "op")? {
         "declare_function" => declare_of(alloc, convention, value),
         "declare_anonymous_function" => anonymous_of(alloc, convention, value),
+        op => data_command_by(alloc, op, value),
+    }
+}
+
+fn data_command_by(alloc: Global, op: &str, value: &Value) -> Result<Command, FormError>
+    ensures { Gives command_view result (data_command_by op.now (view value.now)) }
+{
+    match op {
         "declare_data" => declare_data_of(alloc, value),
         "declare_anonymous_data" => anonymous_data_of(value),
         op => definition_by(alloc, op, value),
