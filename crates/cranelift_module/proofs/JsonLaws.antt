@@ -17,7 +17,7 @@ use Rattle.cranelift_module.specs.declared.linkage.Linkage.TheVariants.{Import, 
 use Rattle.cranelift_module.specs.Rows.{FunctionRow, DataRow}
 use Rattle.cranelift_module.specs.Declarations.{DeclarationLists, has_repeat, names_of}
 use Rattle.cranelift_module.specs.Words.{linkage_word, type_word, extension_word, purpose_word, convention_word, linkage_named, type_named, extension_named, purpose_named, convention_named}
-use Rattle.cranelift_module.specs.JsonForm.{each_of, text_or_null}
+use Rattle.json_form.specs.Form.{each_of, text_or_null}
 use Rattle.cranelift_module.specs.DeclarationForm.{name_value, param_value, signature_value, function_value, object_value, param_of, signature_of, function_of, object_of}
 use Rattle.cranelift_module.specs.DeclarationJson.{value_of, version_of, rows_at, from_json}
 

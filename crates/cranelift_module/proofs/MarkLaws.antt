@@ -2,7 +2,6 @@
 use Rattle.std.proofs.Common.{◌≡◌, ℕ, ◌+◌, List, [], ◌∷◌, ◌++◌, Bool, true, false, cond, ◌||◌, arith, Option, Some, None, is_some, length, take, slice_get, filter_map, option_map, option_to_list, refl, ap, sym, ◌∙◌}
 use Rattle.std.specs.List.{list_any, position_from, cons_option}
 use Rattle.std.proofs.lemmas.List.{take_all}
-use Rattle.std.proofs.lemmas.List.Folds.{list_any-append}
 use Rattle.ir_core.specs.Moments.{Moment, moments, moments_after}
 use Rattle.ir_core.specs.Target.{Target}
 use Rattle.cranelift_module.specs.declared.identifiers.FuncOrDataId.{FuncOrDataId}
@@ -10,7 +9,7 @@ use Rattle.cranelift_module.specs.declared.identifiers.FuncOrDataId.TheVariants.
 use Rattle.cranelift_module.specs.Call.{Call, declare_function, declare_anonymous_function, declare_data, declare_anonymous_data, define_function, define_data}
 use Rattle.cranelift_module.specs.Rows.{FunctionRow, DataRow, objects_of}
 use Rattle.cranelift_module.specs.Definitions.{Definition, definition_made, definitions_of, is_writable}
-use Rattle.cranelift_module.specs.LinkState.{LinkState, state_of}
+use Rattle.cranelift_module.specs.LinkState.{state_of}
 use Rattle.cranelift_module.specs.Marks.{linkage_held, name_held, linkage_at, linkage_of, writable_at, name_of, signature_of, defines, definition_of}
 use Rattle.cranelift_module.specs.Refusal.{is_same_identifier, is_defined}
 use Rattle.cranelift_module.proofs.StateLaws.{or_nothing}

@@ -1,6 +1,5 @@
 -- Names stay found when a declaration is added or changed.
-use mathlib.Core.Bool.{beq}
-use Rattle.std.proofs.Common.{◌≡◌, ℕ, zero, suc, ◌+◌, ◌<◌, ◌≤◌, get_or, length-append, arith, List, [], ◌∷◌, ◌++◌, length, Bool, true, false, not, cond, Option, Some, None, slice_get, Result, Ok, Err, OnOk, OnErr, refl, ap, sym, ◌∙◌, String, Global, string_bytes, bytes_eq}
+use Rattle.std.proofs.Common.{◌≡◌, ℕ, zero, suc, ◌+◌, ◌<◌, ◌≤◌, get_or, length-append, arith, List, [], ◌∷◌, ◌++◌, length, Bool, true, false, cond, Option, Some, None, slice_get, Result, Ok, Err, OnOk, OnErr, refl, ap, sym, ◌∙◌, String, Global, string_bytes, bytes_eq}
 use Rattle.std.specs.List.{find, position_from}
 use Rattle.std.specs.Map.{lookup}
 use Rattle.std.specs.Option.{option_or}
@@ -17,10 +16,10 @@ use Rattle.cranelift_module.specs.declared.identifiers.FuncOrDataId.TheVariants.
 use Rattle.cranelift_module.specs.Rows.{FunctionRow, DataRow}
 use Rattle.cranelift_module.specs.LinkState.{is_function_named, is_data_named, is_same, raised_function, raised_data}
 use Rattle.cranelift_module.specs.Declarations.{FindsNames, IsSound, function_found, data_found, changed_at, numbered, has_repeat}
-use Rattle.cranelift_module.specs.Refusal.{function_clash, data_clash, changes_signature, changes_tls, incompatible_declaration, incompatible_signature, incompatible_tls, Refusal, refuse_if}
+use Rattle.cranelift_module.specs.Refusal.{function_clash, data_clash, changes_signature, changes_tls, incompatible_declaration}
 use Rattle.cranelift_module.proofs.Distinct.{distinct-function, distinct-data, names-anonymous, names-data_anonymous, names-function_changed, names-data_changed}
 use Rattle.cranelift_module.proofs.Places.{position-changed, position-append, find-at, find-none, any-at, any-none, position-below, length-changed}
-use Rattle.ir_core.specs.Signature.{SignatureData, is_same_signature}
+use Rattle.ir_core.specs.Signature.{SignatureData}
 
 unnamed : (o : Option ℕ) → option_or o None ≡ o
 unnamed None = refl

@@ -1,5 +1,5 @@
 -- Accepted declarations in another order leave each name the same row.
-use Rattle.std.proofs.Common.{◌≡◌, ℕ, List, [], ◌∷◌, ◌++◌, Bool, true, false, cond, not, filter_map, Option, Some, None, Contains, option_map, option_to_list, refl, ap, sym, ◌∙◌, subst, bytes_eq, unwrap_or, arith, ◌⊎◌, inl, inr, ⊎_elim}
+use Rattle.std.proofs.Common.{◌≡◌, ℕ, List, [], ◌∷◌, ◌++◌, Bool, true, false, cond, not, filter_map, Option, Some, None, Contains, option_map, option_to_list, refl, ap, sym, ◌∙◌, subst, bytes_eq, unwrap_or, arith, ⊎_elim}
 use Rattle.std.specs.List.{list_any, find}
 use Rattle.std.specs.List.Sorted.{IsPermutation}
 use Rattle.std.specs.Option.{option_or}
@@ -11,13 +11,12 @@ use Rattle.ir_core.specs.Target.{Target}
 use Rattle.ir_core.specs.Signature.{SignatureData, is_same_signature}
 use Rattle.ir_core.proofs.MomentLaws.{by_end}
 use Rattle.ir_core.proofs.Same.{same_signature-Decides}
-use Rattle.cranelift_module.specs.declared.linkage.Linkage.{Linkage}
 use Rattle.cranelift_module.specs.Linkage.{greatest}
 use Rattle.cranelift_module.specs.Call.{Call, declare_function, declare_anonymous_function, declare_data, declare_anonymous_data, define_function, define_data, function_linkage, data_linkage, marks_writable}
 use Rattle.cranelift_module.specs.Rows.{FunctionRow, DataRow, is_new, function_made, data_made, functions_of, objects_of}
 use Rattle.cranelift_module.specs.LinkState.{LinkState, state_of, step, is_function_named, is_data_named, with_first, raised_function, raised_data}
 use Rattle.cranelift_module.specs.Laws.{IsAccepted}
-use Rattle.cranelift_module.specs.Refusal.{Refusal, refusal, refuse_if, zero_byte, changes_signature, changes_tls}
+use Rattle.cranelift_module.specs.Refusal.{refusal, zero_byte, changes_signature, changes_tls}
 use Rattle.cranelift_module.proofs.OrderLaws.{greatest-IsPermutation}
 use Rattle.cranelift_module.proofs.StateLaws.{made_functions, made_objects, made_functions-end, made_objects-end, function_row, data_row, none_none, not_refused, state_of-step, IsAccepted-front}
 

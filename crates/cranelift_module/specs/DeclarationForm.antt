@@ -1,19 +1,15 @@
 -- One declared function or data object as a JSON value, written and read. The keys of an object stand in the order of their bytes.
-use Rattle.std.specs.Prelude.{ℕ, List, [], ◌∷◌, map, codes, Option, Some, None}
-use Rattle.serde_json.specs.Data.{Data, null, boolean, string, array, object, no_members, member}
+use Rattle.std.specs.Prelude.{ℕ, List, [], ◌∷◌, codes, Option, Some, None}
+use Rattle.serde_json.specs.Data.{Data, null, boolean, string, object, no_members, member}
 use Rattle.serde_json.specs.Find.{get}
-use Rattle.serde_json.specs.View.{items_of}
 use Rattle.ir_core.specs.Signature.{SignatureData}
 use Rattle.ir_core.specs.declared.signature.AbiParam.{AbiParam}
 use Rattle.cranelift_module.specs.Rows.{FunctionRow, DataRow}
 use Rattle.cranelift_module.specs.Words.{linkage_word, type_word, extension_word, purpose_word, convention_word, linkage_named, type_named, extension_named, purpose_named, convention_named}
-use Rattle.cranelift_module.specs.JsonForm.{◌>>=◌, each_of, text_at, items_at, mark_at, name_at, with_keys}
+use Rattle.json_form.specs.Written.{list_value}
+use Rattle.json_form.specs.Form.{◌>>=◌, each_of, text_at, items_at, mark_at, name_at, with_keys}
 
 -- -- written
-
--- a list of values, each written in this way
-abbrev pub list_value : {A : Type 0} → (A → Data) → List A → Data
-list_value write xs = array (items_of (map write xs))
 
 -- a name, or null where there is none
 abbrev pub name_value : Option (List ℕ) → Data

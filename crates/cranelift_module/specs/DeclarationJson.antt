@@ -8,8 +8,9 @@ use Rattle.cranelift_module.specs.declared.declaration_json.cause.JsonCause.{Jso
 use Rattle.cranelift_module.specs.declared.declaration_json.cause.JsonCause.TheVariants.{MissingKey, WrongShape, OtherVersion, DuplicateName, Allocation}
 use Rattle.cranelift_module.specs.Rows.{FunctionRow, DataRow}
 use Rattle.cranelift_module.specs.Declarations.{DeclarationLists, has_repeat, names_of}
-use Rattle.cranelift_module.specs.JsonForm.{each_of}
-use Rattle.cranelift_module.specs.DeclarationForm.{list_value, function_value, object_value, function_of, object_of}
+use Rattle.json_form.specs.Form.{each_of}
+use Rattle.json_form.specs.Written.{list_value}
+use Rattle.cranelift_module.specs.DeclarationForm.{function_value, object_value, function_of, object_of}
 
 -- the text under `_version_marker`
 abbrev pub version_text : List ℕ

@@ -1,5 +1,5 @@
 -- What a contract sees of the declarations, and how a map finds the names among them.
-use Rattle.std.specs.Prelude.{◌≡◌, ℕ, zero, suc, ◌+◌, ◌≤◌, length, Bool, true, false, ◌||◌, bytes_eq, List, [], ◌∷◌, ◌++◌, filter_map, Option, Some, None, option_map, is_some, String, string_bytes, string_cmp}
+use Rattle.std.specs.Prelude.{◌≡◌, ℕ, ◌+◌, ◌≤◌, length, Bool, true, false, ◌||◌, bytes_eq, List, [], ◌∷◌, ◌++◌, filter_map, Option, Some, None, option_map, is_some, String, string_bytes, string_cmp}
 use Rattle.std.specs.Global.{Global}
 use Rattle.std.specs.List.{list_any, position_from}
 use Rattle.std.specs.Option.{option_or}

@@ -2,8 +2,8 @@
 use Rattle.std.specs.Prelude.{ℕ, List, codes}
 use Rattle.cranelift_module.specs.declared.declaration_json.cause.JsonCause.{JsonCause}
 use Rattle.cranelift_module.specs.declared.declaration_json.cause.JsonCause.TheVariants.{MissingKey, WrongShape, OtherVersion, DuplicateName, Allocation}
-use Rattle.cranelift_module.specs.declared.declaration_json.form.FormError.{FormError}
-use Rattle.cranelift_module.specs.declared.declaration_json.form.FormError.TheVariants.{NotForm, OutOfMemory}
+use Rattle.json_form.specs.declared.form_error.FormError.{FormError}
+use Rattle.json_form.specs.declared.form_error.FormError.TheVariants.{NotForm, OutOfMemory}
 
 -- what is not of a form has the wrong shape
 abbrev pub cause_of : FormError → JsonCause

@@ -1,11 +1,13 @@
 //! Descriptions of data objects.
 
-ghost use Rattle.std.specs.Prelude.{◌≡◌, ◌<◌, ◌∷◌, ◌++◌, [], None, Some, false, length, map, option_map, IfOk, OnOk, OnErr};
+ghost use Rattle.std.specs.Prelude.{◌≡◌, ◌<◌, ◌∷◌, ◌++◌, [], None, Some, true, false, length, map, option_map, IfOk, OnOk, OnErr};
 ghost use Rattle.std.specs.List.{list_all};
+ghost use Rattle.std.specs.Iterator.{YieldsFirst, item_count};
+ghost use Rattle.cranelift_module.specs.Definitions.{relocs_with, function_reloc, value_reloc};
 ghost use Rattle.cranelift_module.specs.Init.{init_view, is_function_within, is_value_within};
 
-use crate::ModuleRelocTarget;
-use ir_core::{FuncRef, GlobalValue};
+use crate::{ModuleReloc, ModuleRelocTarget};
+use ir_core::{FuncRef, GlobalValue, Reloc};
 use std::alloc::{AllocError, Global};
 use std::marker::Model;
 
@@ -21,7 +23,7 @@ pub enum Init {
 }
 
 impl Init {
-    ghost use Rattle.std.specs.Prelude.{Some, option_map, IsSome, IfOk};
+    ghost use Rattle.std.specs.Prelude.{◌<◌, ◌^◌, Some, option_map, IsSome, IfSome, IfOk, is_none};
     ghost use Rattle.cranelift_module.specs.Definitions.{size_of};
     ghost use Rattle.cranelift_module.specs.Init.{init_view};
 
@@ -37,9 +39,17 @@ impl Init {
         }
     }
 
+    // Whether nothing is said of it yet.
+    pub(crate) fn is_uninitialized(&self) -> bool
+        ensures { result ≡ is_none (init_view self.now) }
+    {
+        matches!(self, Init::Uninitialized)
+    }
+
     /// An equal one. Zeros take no memory.
     pub fn copy(&self) -> Result<Init, AllocError>
-        ensures { IfOk result (λ init. init_view init ≡ init_view self.now) }
+        ensures equal { IfOk result (λ init. init_view init ≡ init_view self.now) }
+        ensures sized { IfOk result (λ init. IfSome (init_view init) (λ contents. size_of contents < 2 ^ 64)) }
     {
         match self {
             Init::Uninitialized => Ok(Init::Uninitialized),
@@ -266,6 +276,98 @@ impl DataDescription {
     {
         are_functions_within(&self.function_relocs, self.function_decls.len())
             && are_values_within(&self.data_relocs, self.data_decls.len())
+    }
+
+    /// The relocations of a pointer's kind: those of the written function addresses, with addend 0, then those of
+    /// the written data addresses. It needs that each reference lies in the list of what was imported.
+    #[tactic(auto, using(crate::proofs::References::functions_within, crate::proofs::References::values_within))]
+    pub fn all_relocs(&self, pointer_reloc: Reloc) -> AllRelocs<'_>
+        requires { are_in_range self.now ≡ true }
+        ensures { result ≡ relocs_with pointer_reloc self.now }
+    {
+        AllRelocs {
+            kind: pointer_reloc,
+            function_decls: &self.function_decls,
+            data_decls: &self.data_decls,
+            function_relocs: &self.function_relocs,
+            data_relocs: &self.data_relocs,
+        }
+    }
+}
+
+/// The relocations of a data description that are left. A contract sees them as a list.
+#[derive(Drop)]
+pub struct AllRelocs<'a> {
+    kind: Reloc,
+    function_decls: &'a [ModuleRelocTarget],
+    data_decls: &'a [ModuleRelocTarget],
+    function_relocs: &'a [(u32, FuncRef)],
+    data_relocs: &'a [(u32, GlobalValue, i64)],
+}
+
+impl<'a> Model for AllRelocs<'a> {
+    ghost use Rattle.std.specs.Prelude.{◌≡◌, true, List, length};
+    ghost use Rattle.std.specs.List.{list_all};
+    ghost use Rattle.cranelift_module.specs.declared.reloc.ModuleReloc.{ModuleReloc};
+    ghost use Rattle.cranelift_module.specs.Definitions.{relocs_over};
+    ghost use Rattle.cranelift_module.specs.Init.{is_function_within, is_value_within};
+
+    ghost Value = { List ModuleReloc };
+
+    ghost view = { λ it. relocs_over it.kind it.function_decls.now it.function_relocs.now it.data_decls.now it.data_relocs.now };
+
+    ghost invariant = { λ it. (list_all (is_function_within (length it.function_decls.now)) it.function_relocs.now ≡ true) × (list_all (is_value_within (length it.data_decls.now)) it.data_relocs.now ≡ true) };
+}
+
+impl<'a> Iterator for AllRelocs<'a> {
+    type Item = ModuleReloc;
+
+    ghost next_gives = { YieldsFirst (λ rest. rest) };
+
+    ghost remaining = { item_count (λ rest. rest) };
+
+    fn next(&mut self) -> Option<ModuleReloc> {
+        if let Some((address, rest)) = self.function_relocs.split_first() {
+            self.function_relocs = rest;
+            return Some(function_reloc(self.kind, self.function_decls, address));
+        }
+        let (address, rest) = self.data_relocs.split_first()?;
+        self.data_relocs = rest;
+        Some(value_reloc(self.kind, self.data_decls, address))
+    }
+}
+
+// The relocation of a written function address.
+fn function_reloc(
+    kind: Reloc,
+    imports: &[ModuleRelocTarget],
+    address: &(u32, FuncRef),
+) -> ModuleReloc
+    requires { is_function_within (length imports.now) address.now ≡ true }
+    ensures { result ≡ function_reloc kind imports.now address.now }
+{
+    ModuleReloc {
+        offset: address.0,
+        kind,
+        name: imports[address.1.as_u32() as usize],
+        addend: 0,
+    }
+}
+
+// The relocation of a written data address.
+fn value_reloc(
+    kind: Reloc,
+    imports: &[ModuleRelocTarget],
+    address: &(u32, GlobalValue, i64),
+) -> ModuleReloc
+    requires { is_value_within (length imports.now) address.now ≡ true }
+    ensures { result ≡ value_reloc kind imports.now address.now }
+{
+    ModuleReloc {
+        offset: address.0,
+        kind,
+        name: imports[address.1.as_u32() as usize],
+        addend: address.2,
     }
 }
 

@@ -1,8 +1,6 @@
 //! Declarations as JSON values: `write` makes them, `read` takes them in.
 
 mod cause;
-mod fields;
-mod form;
 mod laws;
 mod names;
 mod read;

@@ -1,13 +1,16 @@
 //! Tests that a back end makes before it accepts a call, each exact for its causes and their order.
 
-ghost use Rattle.std.specs.Prelude.{◌≡◌, Some, None, OnOk, IfErr, IfOk, slice_get, string_bytes, ◌==◌};
+ghost use Rattle.std.specs.Prelude.{◌≡◌, ◌++◌, Some, None, OnOk, IfErr, IfOk, slice_get, string_bytes, codes, decimal, option_map, ◌==◌, take, length, List, []};
 ghost use Rattle.std.specs.List.{position_from};
-ghost use Rattle.cranelift_module.specs.Refusal.{Tells, zero_byte, undefinable, is_bad_align, function_name};
+ghost use Rattle.cranelift_module.specs.Refusal.{Tells, zero_byte, undefinable, undefinable_object, undefinable_data, description_cause, loose_function, loose_value, is_outside, reloc_cause, bad_reloc_from, is_bad_align, function_name};
 ghost use Rattle.cranelift_module.specs.Texts.{user_text};
+ghost use Rattle.cranelift_module.specs.declared.reloc.ModuleReloc.{ModuleReloc};
 
 use crate::{
-    BackendCause, FuncId, ModuleDeclarations, ModuleError, ModuleRelocTarget, ModuleResult,
+    BackendCause, DataDeclaration, DataDescription, DataId, FuncId, ModuleDeclarations,
+    ModuleError, ModuleReloc, ModuleRelocTarget, ModuleResult,
 };
+use ir_core::{FuncRef, GlobalValue, TargetIsa, elf_number, field_width};
 use std::alloc::{AllocError, Global};
 
 /// Refuses a text that has a zero byte, by the place of the first.
@@ -68,6 +71,167 @@ pub fn check_definable(
 // The text of a function's identifier, as `u0:7`.
 fn undeclared_function(alloc: Global, id: FuncId) -> Result<String, AllocError>
     ensures { IfOk result (λ text. string_bytes text ≡ user_text 0 id) }
+{
+    ModuleRelocTarget::from(id).to_string(alloc)
+}
+
+/// Refuses the definition of a data object that isn't declared, is an import or is defined already; then that
+/// by a description without contents, of a bad alignment, with a reference past its imports, with a section of
+/// its own for thread-local data, or with a zero byte in the text of that section. The first of these is told.
+/// Whether it is defined already is handed in.
+pub fn check_data_definable(
+    alloc: Global,
+    declarations: &ModuleDeclarations,
+    defined: bool,
+    id: DataId,
+    desc: &DataDescription,
+) -> ModuleResult<()>
+    ensures accepted { OnOk result (undefinable_data defined id desc.now (slice_get (declarations.now).objects id) ≡ None) }
+    ensures refused { IfErr result (λ e. Tells e (undefinable_data defined id desc.now (slice_get (declarations.now).objects id))) }
+{
+    let Some(object) = declarations.data(id) else {
+        let text = undeclared_data(alloc, id)?;
+        return Err(ModuleError::Undeclared(text));
+    };
+    if let Err(error) = check_object(alloc, object, defined, id) {
+        return Err(error);
+    }
+    check_description(alloc, object.tls(), desc)
+}
+
+// Refuses the definition of an import, and a second one.
+fn check_object(
+    alloc: Global,
+    object: &DataDeclaration,
+    defined: bool,
+    id: DataId,
+) -> ModuleResult<()>
+    ensures accepted { OnOk result (undefinable_object defined id (Some object.now) ≡ None) }
+    ensures refused { IfErr result (λ e. Tells e (undefinable_object defined id (Some object.now))) }
+{
+    if !object.linkage().is_definable() {
+        let name = object.linkage_name(alloc, id)?.into_owned(alloc)?;
+        return Err(ModuleError::InvalidImportDefinition(name));
+    }
+    if defined {
+        let name = object.linkage_name(alloc, id)?.into_owned(alloc)?;
+        return Err(ModuleError::DuplicateDefinition(name));
+    }
+    Ok(())
+}
+
+// Refuses a description that can't define a data object with this thread-local mark.
+fn check_description(alloc: Global, tls: bool, desc: &DataDescription) -> ModuleResult<()>
+    ensures accepted { OnOk result (description_cause tls desc.now ≡ None) }
+    ensures refused { IfErr result (λ e. Tells e (description_cause tls desc.now)) }
+{
+    if desc.init().is_uninitialized() {
+        return Err(ModuleError::Backend(BackendCause::NoContents));
+    }
+    let align = desc.align().unwrap_or(1);
+    if is_bad_align(align) {
+        return Err(ModuleError::Backend(BackendCause::BadAlign { align }));
+    }
+    if let Some(function) = loose_function(desc) {
+        let text = function.to_string(alloc)?;
+        return Err(ModuleError::Undeclared(text));
+    }
+    if let Some(value) = loose_value(desc) {
+        let text = value.to_string(alloc)?;
+        return Err(ModuleError::Undeclared(text));
+    }
+    if tls && desc.custom_section().is_some() {
+        return Err(ModuleError::Backend(BackendCause::TlsPlace));
+    }
+    check_no_zero_byte(desc.custom_section().unwrap_or("").as_bytes())
+}
+
+// The first reference of a written function address that lies past the imported functions.
+fn loose_function(desc: &DataDescription) -> Option<FuncRef>
+    ensures { result ≡ option_map (λ a. a.1) (loose_function desc.now) }
+{
+    let count = desc.function_decls().len();
+    let loose = desc
+        .function_relocs()
+        .iter()
+        .find(|reloc| !((reloc.1.as_u32() as usize) < count));
+    match loose {
+        Some(reloc) => Some(reloc.1),
+        None => None,
+    }
+}
+
+// The first reference of a written data address that lies past the imported data objects.
+fn loose_value(desc: &DataDescription) -> Option<GlobalValue>
+    ensures { result ≡ option_map (λ a. a.1) (loose_value desc.now) }
+{
+    let count = desc.data_decls().len();
+    let loose = desc
+        .data_relocs()
+        .iter()
+        .find(|reloc| !((reloc.1.as_u32() as usize) < count));
+    match loose {
+        Some(reloc) => Some(reloc.1),
+        None => None,
+    }
+}
+
+/// Refuses the first relocation of a kind that the target lacks, or whose field leaves so many bytes of contents;
+/// where there are none, as zeros have none, each field leaves them.
+pub fn check_relocs(
+    isa: &TargetIsa,
+    size: Option<usize>,
+    relocs: &[ModuleReloc],
+) -> ModuleResult<()>
+    ensures accepted { OnOk result (bad_reloc_from isa.now size [] relocs.now ≡ None) }
+    ensures refused { IfErr result (λ e. Tells e (bad_reloc_from isa.now size [] relocs.now)) }
+{
+    for (index, reloc) in relocs.iter().enumerate() {
+        if let Err(error) = check_reloc(isa, size, index, reloc) {
+            return Err(error);
+        }
+    }
+    Ok(())
+}
+
+// Refuses the relocation of this number, by its kind or its field.
+fn check_reloc(
+    isa: &TargetIsa,
+    size: Option<usize>,
+    index: usize,
+    reloc: &ModuleReloc,
+) -> ModuleResult<()>
+    ensures accepted { (before : List ModuleReloc) → length before ≡ index → OnOk result (reloc_cause isa.now size before reloc.now ≡ None) }
+    ensures refused { (before : List ModuleReloc) → length before ≡ index → IfErr result (λ e. Tells e (reloc_cause isa.now size before reloc.now)) }
+{
+    if elf_number(isa.triple().architecture, reloc.kind).is_none() {
+        return Err(ModuleError::Backend(BackendCause::UnsupportedReloc {
+            index,
+            kind: reloc.kind,
+        }));
+    }
+    if is_outside(size, reloc) {
+        return Err(ModuleError::Backend(BackendCause::BadReloc {
+            index,
+            offset: reloc.offset,
+        }));
+    }
+    Ok(())
+}
+
+// Whether the field of a relocation leaves so many bytes.
+fn is_outside(size: Option<usize>, reloc: &ModuleReloc) -> bool
+    ensures { result ≡ is_outside size reloc.now }
+{
+    match size {
+        Some(size) => (size as u64) < u64::from(reloc.offset) + u64::from(field_width(reloc.kind)),
+        None => true,
+    }
+}
+
+// The text of a data object's identifier, as `u1:7`.
+fn undeclared_data(alloc: Global, id: DataId) -> Result<String, AllocError>
+    ensures { IfOk result (λ text. string_bytes text ≡ user_text 1 id) }
 {
     ModuleRelocTarget::from(id).to_string(alloc)
 }

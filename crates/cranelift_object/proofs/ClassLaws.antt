@@ -1,27 +1,33 @@
 -- The numbers of sections, and the places of definitions in them.
-use Rattle.std.proofs.Common.{◌≡◌, ℕ, ◌+◌, ◌==◌, ◌<◌, ◌≤◌, ◌++◌, ◌∷◌, List, [], Bool, true, false, not, ◌||◌, cond, length, map, Option, Some, None, refl, ap, sym, ◌∙◌, arith, length-append, inl, inr, filter}
+use Rattle.std.proofs.Common.{◌≡◌, ℕ, zero, suc, ◌+◌, ◌==◌, ◌<◌, ◌≤◌, ◌++◌, ◌∷◌, List, [], Bool, true, false, not, ◌||◌, cond, length, map, Option, Some, None, refl, ap, sym, ◌∙◌, subst, arith, length-append, inl, inr, filter}
 use Rattle.std.proofs.lemmas.List.{append-nil, map-append}
 use Rattle.std.proofs.lemmas.Bool.Decides.{eqb_tells}
 use Rattle.std.proofs.lemmas.Bool.{cases_Bool}
 use Rattle.std.proofs.lemmas.List.Folds.{list_any-append}
-use Rattle.std.proofs.lemmas.List.Elements.{All-weaker, All-nil, All-push}
+use Rattle.std.proofs.lemmas.List.Elements.{All-weaker, All-nil, All-push, All-cons, All-head, All-tail, All-map, All-get_or}
+use Rattle.std.proofs.lemmas.Option.{get_or_from_slice_get, slice_get_within}
+use Rattle.std.specs.Prelude.{slice_get}
 use Rattle.std.specs.List.{list_any, position_or_len, All}
 use Rattle.ir_core.specs.Moments.{Moment, moments}
 use Rattle.ir_core.proofs.MomentLaws.{map_moments-end, once_each-end, by_end}
 use Rattle.object_core.specs.declared.kinds.StandardSection.{StandardSection}
+use Rattle.object_core.specs.declared.kinds.StandardSection.TheVariants.{Text, Data as DataSection, ReadOnlyData, ReadOnlyDataWithRel, UninitializedData, Tls, UninitializedTls}
+use Rattle.cranelift_module.specs.declared.identifiers.FuncOrDataId.{FuncOrDataId}
+use Rattle.cranelift_module.specs.declared.identifiers.FuncOrDataId.TheVariants.{Func, Data}
+use Rattle.cranelift_object.specs.Kept.{IsPlainBody}
 use Rattle.object_core.specs.Standard.{standard_place, is_same_shared}
 use Rattle.object_core.specs.Places.{Extent}
 use Rattle.cranelift_module.specs.Definitions.{Definition}
 use Rattle.cranelift_module.specs.LinkState.{LinkState}
 use Rattle.cranelift_object.specs.Settings.{Settings}
-use Rattle.cranelift_object.specs.SectionClass.{Class, section_class}
+use Rattle.cranelift_object.specs.SectionClass.{Class, section_class, class_by_text, standard_class, standard_section, has_own_section}
 use Rattle.cranelift_object.specs.Placing.{Placed, share, sections_used, section_number, number_of, standing_in, placed_at, extent_of}
 use Rattle.cranelift_object.specs.Partial.{placed_of}
 use Rattle.cranelift_object.specs.Linked.{members}
 
 -- -- sharing
 
-equal : (a b : ℕ) → (a == b) ≡ true → a ≡ b
+pub equal : (a b : ℕ) → (a == b) ≡ true → a ≡ b
 equal a b h = elim (eqb_tells a b) [ inl e ↦ e.1 | inr e ↦ absurd (let k : false ≡ true = sym e.0 ∙ h in cc) ]
 
 same_along : (a b d : Option StandardSection) → is_same_shared a b ≡ true → is_same_shared b d ≡ is_same_shared a d
@@ -153,3 +159,201 @@ map_definitions f (p ∷ ps) = rw (map_definitions f ps) refl
 -- the extents of a section's members
 pub members_extents : (settings : Settings) (s : LinkState) (k : ℕ) (ds : List Definition) → map (λ (p : Placed). extent_of s p.definition) (members (placed_of settings s ds) k) ≡ map (extent_of s) (standing_in settings s k ds)
 members_extents settings s k ds = map_definitions (extent_of s) (members (placed_of settings s ds) k) ∙ ap (map (extent_of s)) (members_standing settings s k ds)
+
+-- -- what holds of each class
+
+pub All-front : {A : Type 0} (P : A → Type 0) (xs : List A) (x : A) → All P (xs ++ x ∷ []) → All P xs
+All-front P [] x all = All-nil P
+All-front P (y ∷ xs) x all = All-cons P y xs (All-head P y (xs ++ x ∷ []) all) (All-front P xs x (All-tail P y (xs ++ x ∷ []) all))
+
+pub All-last : {A : Type 0} (P : A → Type 0) (xs : List A) (x : A) → All P (xs ++ x ∷ []) → P x
+All-last P [] x all = All-head P x [] all
+All-last P (y ∷ xs) x all = All-last P xs x (All-tail P y (xs ++ x ∷ []) all)
+
+used_all_cond : (P : Class → Type 0) (cs : List Class) (c : Class) (b : Bool) → P c → All P cs → All P (cs ++ cond b [] (c ∷ []))
+used_all_cond P cs c true here all = rw append-nil all
+used_all_cond P cs c false here all = All-push P cs c all here
+
+used_all_none : (P : Class → Type 0) → All P [] → All P (sections_used [])
+unfolding sections_used moments
+used_all_none P all = all
+
+used_all_more : (P : Class → Type 0) (cs : List Class) (c : Class) → (All P cs → All P (sections_used cs)) → All P (cs ++ c ∷ []) → All P (sections_used (cs ++ c ∷ []))
+used_all_more P cs c before all =
+    rw (used-end cs c) (used_all_cond P (sections_used cs) c (list_any (share c) cs) (All-last P cs c all) (before (All-front P cs c all)))
+
+-- what holds of each class holds of each section in use
+pub used_all : (P : Class → Type 0) (cs : List Class) → All P cs → All P (sections_used cs)
+used_all P = by_end (λ cs. All P cs → All P (sections_used cs)) (used_all_none P) (used_all_more P)
+
+pub All-slice_get : {A : Type 0} (P : A → Type 0) (xs : List A) (k : ℕ) (x : A) → All P xs → slice_get xs k ≡ Some x → P x
+All-slice_get P xs k x all at = subst P (get_or_from_slice_get xs k x x at) (All-get_or P xs k x (slice_get_within xs k x at) all)
+
+-- -- the class of a section
+
+-- a class that others may share is the plain one of its standard section
+abbrev pub IsShareable : Class → Type 0
+IsShareable c = (standard : StandardSection) → c.shared ≡ Some standard → c ≡ standard_class standard false false
+
+shareable_own : (std : StandardSection) (own used : Bool) → (own ≡ false → used ≡ false) → IsShareable (standard_class std own used)
+shareable_own std true used h standard e = absurd (cc)
+shareable_own std false used h standard e =
+    let same : std ≡ standard = cc in
+    rw (same, h refl) refl
+
+shareable_text : (settings : Settings) (s : LinkState) (d : Definition) (text : Option (List ℕ)) → (has_own_section settings d d.identifier ≡ false → d.used ≡ false) → IsShareable (class_by_text settings s d text)
+shareable_text settings s d (Some text) h standard e = absurd (cc)
+shareable_text settings s d None h standard e = shareable_own (standard_section s d d.identifier) (has_own_section settings d d.identifier) d.used h standard e
+
+second_false : (a b : Bool) → (a || b) ≡ false → b ≡ false
+second_false true b h = absurd (cc)
+second_false false b h = h
+
+alone_used : (settings : Settings) (d : Definition) (id : FuncOrDataId) → IsPlainBody id d.contents d.section d.used → has_own_section settings d id ≡ false → d.used ≡ false
+alone_used settings d (Func k) plain h = plain.2
+alone_used settings d (Data k) plain h = second_false settings.data_sections d.used h
+
+-- the class of a definition is one
+pub shareable : (settings : Settings) (s : LinkState) (d : Definition) → IsPlainBody d.identifier d.contents d.section d.used → IsShareable (section_class settings s d)
+shareable settings s d plain = shareable_text settings s d d.section (alone_used settings d d.identifier plain)
+
+retain_text : (settings : Settings) (s : LinkState) (d : Definition) (text : Option (List ℕ)) → (class_by_text settings s d text).retain ≡ d.used
+retain_text settings s d None = refl
+retain_text settings s d (Some text) = refl
+
+-- the linker keeps the section of what is used
+pub retain_is : (settings : Settings) (s : LinkState) (d : Definition) → (section_class settings s d).retain ≡ d.used
+retain_is settings s d = retain_text settings s d d.section
+
+used_alone : (settings : Settings) (s : LinkState) (d : Definition) → IsPlainBody d.identifier d.contents d.section d.used → (shared : Option StandardSection) → (section_class settings s d).shared ≡ shared → d.used ≡ true → shared ≡ None
+used_alone settings s d plain None e used = refl
+used_alone settings s d plain (Some standard) e used =
+    absurd (let k : false ≡ true = sym (ap (λ (c : Class). c.retain) (shareable settings s d plain standard e)) ∙ retain_is settings s d ∙ used in cc)
+
+-- what is used shares its section with nothing
+pub used_unshared : (settings : Settings) (s : LinkState) (d : Definition) → IsPlainBody d.identifier d.contents d.section d.used → d.used ≡ true → (section_class settings s d).shared ≡ None
+used_unshared settings s d plain used = used_alone settings s d plain (section_class settings s d).shared refl used
+
+same_standard : (a b : StandardSection) → standard_place a ≡ standard_place b → a ≡ b
+same_standard Text Text h = refl
+same_standard DataSection DataSection h = refl
+same_standard ReadOnlyData ReadOnlyData h = refl
+same_standard ReadOnlyDataWithRel ReadOnlyDataWithRel h = refl
+same_standard UninitializedData UninitializedData h = refl
+same_standard Tls Tls h = refl
+same_standard UninitializedTls UninitializedTls h = refl
+same_standard Text DataSection h = absurd (omega arith)
+same_standard Text ReadOnlyData h = absurd (omega arith)
+same_standard Text ReadOnlyDataWithRel h = absurd (omega arith)
+same_standard Text UninitializedData h = absurd (omega arith)
+same_standard Text Tls h = absurd (omega arith)
+same_standard Text UninitializedTls h = absurd (omega arith)
+same_standard DataSection Text h = absurd (omega arith)
+same_standard DataSection ReadOnlyData h = absurd (omega arith)
+same_standard DataSection ReadOnlyDataWithRel h = absurd (omega arith)
+same_standard DataSection UninitializedData h = absurd (omega arith)
+same_standard DataSection Tls h = absurd (omega arith)
+same_standard DataSection UninitializedTls h = absurd (omega arith)
+same_standard ReadOnlyData Text h = absurd (omega arith)
+same_standard ReadOnlyData DataSection h = absurd (omega arith)
+same_standard ReadOnlyData ReadOnlyDataWithRel h = absurd (omega arith)
+same_standard ReadOnlyData UninitializedData h = absurd (omega arith)
+same_standard ReadOnlyData Tls h = absurd (omega arith)
+same_standard ReadOnlyData UninitializedTls h = absurd (omega arith)
+same_standard ReadOnlyDataWithRel Text h = absurd (omega arith)
+same_standard ReadOnlyDataWithRel DataSection h = absurd (omega arith)
+same_standard ReadOnlyDataWithRel ReadOnlyData h = absurd (omega arith)
+same_standard ReadOnlyDataWithRel UninitializedData h = absurd (omega arith)
+same_standard ReadOnlyDataWithRel Tls h = absurd (omega arith)
+same_standard ReadOnlyDataWithRel UninitializedTls h = absurd (omega arith)
+same_standard UninitializedData Text h = absurd (omega arith)
+same_standard UninitializedData DataSection h = absurd (omega arith)
+same_standard UninitializedData ReadOnlyData h = absurd (omega arith)
+same_standard UninitializedData ReadOnlyDataWithRel h = absurd (omega arith)
+same_standard UninitializedData Tls h = absurd (omega arith)
+same_standard UninitializedData UninitializedTls h = absurd (omega arith)
+same_standard Tls Text h = absurd (omega arith)
+same_standard Tls DataSection h = absurd (omega arith)
+same_standard Tls ReadOnlyData h = absurd (omega arith)
+same_standard Tls ReadOnlyDataWithRel h = absurd (omega arith)
+same_standard Tls UninitializedData h = absurd (omega arith)
+same_standard Tls UninitializedTls h = absurd (omega arith)
+same_standard UninitializedTls Text h = absurd (omega arith)
+same_standard UninitializedTls DataSection h = absurd (omega arith)
+same_standard UninitializedTls ReadOnlyData h = absurd (omega arith)
+same_standard UninitializedTls ReadOnlyDataWithRel h = absurd (omega arith)
+same_standard UninitializedTls UninitializedData h = absurd (omega arith)
+same_standard UninitializedTls Tls h = absurd (omega arith)
+
+shared_alike : (c x : Class) (a b : Option StandardSection) → IsShareable c → IsShareable x → c.shared ≡ a → x.shared ≡ b → is_same_shared a b ≡ true → c ≡ x
+shared_alike c x None b h k e f same = absurd (cc)
+shared_alike c x (Some a) None h k e f same = absurd (cc)
+shared_alike c x (Some a) (Some b) h k e f same =
+    h a e ∙ ap (λ (standard : StandardSection). standard_class standard false false) (same_standard a b (equal (standard_place a) (standard_place b) same)) ∙ sym (k b f)
+
+found_from : {A : Type 0} (test : A → Bool) (x : A) (xs : List A) (b : Bool) → test x ≡ b → (list_any test xs ≡ true → (y : A) × (slice_get xs (position_or_len test xs) ≡ Some y) × (test y ≡ true)) → (b || list_any test xs) ≡ true
+    → (y : A) × (slice_get (x ∷ xs) (cond (not b) (1 + position_or_len test xs) 0) ≡ Some y) × (test y ≡ true)
+found_from test x xs true e more h = (x, refl, e)
+found_from test x xs false e more h =
+    let found = more h in
+    let place : 1 + position_or_len test xs ≡ suc (position_or_len test xs) = omega arith in
+    (found.0, ap (slice_get (x ∷ xs)) place ∙ found.1, found.2)
+
+-- what stands at the first place that passes a test
+found_place : {A : Type 0} (test : A → Bool) (xs : List A) → list_any test xs ≡ true → (y : A) × (slice_get xs (position_or_len test xs) ≡ Some y) × (test y ≡ true)
+found_place test [] h = absurd (cc)
+found_place test (x ∷ xs) h = found_from test x xs (test x) refl (found_place test xs) h
+
+get_last : {A : Type 0} (xs : List A) (x : A) → slice_get (xs ++ x ∷ []) (length xs) ≡ Some x
+get_last [] x = refl
+get_last (y ∷ xs) x = get_last xs x
+
+class_known : (cs : List Class) (c : Class) → All IsShareable cs → IsShareable c → list_any (share c) cs ≡ true → slice_get (sections_used (cs ++ c ∷ [])) (section_number cs c) ≡ Some c
+unfolding section_number
+class_known cs c all here e =
+    let found = found_place (share c) (sections_used cs) (any_used c cs ∙ e) in
+    let x = found.0 in
+    let one : IsShareable x = All-slice_get IsShareable (sections_used cs) (position_or_len (share c) (sections_used cs)) x (used_all IsShareable cs all) found.1 in
+    let same : c ≡ x = shared_alike c x c.shared x.shared here one refl refl found.2 in
+    rw (used-end cs c, e, append-nil) (found.1 ∙ ap Some (sym same))
+
+class_new : (cs : List Class) (c : Class) → list_any (share c) cs ≡ false → slice_get (sections_used (cs ++ c ∷ [])) (section_number cs c) ≡ Some c
+class_new cs c e = rw (number_new cs c e, used-end cs c, e) (get_last (sections_used cs) c)
+
+-- a section in use has the class of each of its definitions
+pub class_there : (cs : List Class) (c : Class) → All IsShareable cs → IsShareable c → slice_get (sections_used (cs ++ c ∷ [])) (section_number cs c) ≡ Some c
+class_there cs c all here =
+    elim (cases_Bool (list_any (share c) cs)) [
+      | inl e ↦ class_known cs c all here e
+      | inr e ↦ class_new cs c e
+    ]
+
+get_front : {A : Type 0} (xs ys : List A) (k : ℕ) (x : A) → slice_get xs k ≡ Some x → slice_get (xs ++ ys) k ≡ Some x
+get_front [] ys k x h = absurd (cc)
+get_front (z ∷ xs) ys zero x h = h
+get_front (z ∷ xs) ys (suc k) x h = get_front xs ys k x h
+
+-- one more class leaves the sections in use where they are
+class_stays : (cs : List Class) (c x : Class) (k : ℕ) → slice_get (sections_used cs) k ≡ Some x → slice_get (sections_used (cs ++ c ∷ [])) k ≡ Some x
+class_stays cs c x k h = ap (λ (used : List Class). slice_get used k) (used-end cs c) ∙ get_front (sections_used cs) (cond (list_any (share c) cs) [] (c ∷ [])) k x h
+
+-- a placed definition stands in a section of its class
+abbrev StandsInClass : Settings → LinkState → List Definition → Placed → Type 0
+StandsInClass settings s ds p = slice_get (sections_used (map (section_class settings s) ds)) p.section ≡ Some (section_class settings s p.definition)
+
+class_none : (settings : Settings) (s : LinkState) → All (StandsInClass settings s []) (placed_of settings s [])
+unfolding moments
+class_none settings s = All-nil (StandsInClass settings s [])
+
+class_more : (settings : Settings) (s : LinkState) (ds : List Definition) (d : Definition) → All (StandsInClass settings s ds) (placed_of settings s ds) → All (λ (x : Definition). IsShareable (section_class settings s x)) (ds ++ d ∷ []) → All (StandsInClass settings s (ds ++ d ∷ [])) (placed_of settings s (ds ++ d ∷ []))
+class_more settings s ds d h all =
+    let class : Definition → Class = section_class settings s in
+    let fronts = All-map IsShareable class ds (All-front (λ (x : Definition). IsShareable (class x)) ds d all) in
+    let here : StandsInClass settings s (ds ++ d ∷ []) (placed_at settings s (record { before = ds; here = d })) = rw map-append (class_there (map class ds) (class d) fronts (All-last (λ (x : Definition). IsShareable (class x)) ds d all)) in
+    let before = All-weaker (StandsInClass settings s ds) (StandsInClass settings s (ds ++ d ∷ [])) (λ p e. rw map-append (class_stays (map class ds) (class d) (class p.definition) p.section e)) (placed_of settings s ds) h in
+    rw (placed_of-end settings s ds d) (All-push (StandsInClass settings s (ds ++ d ∷ [])) (placed_of settings s ds) (placed_at settings s (record { before = ds; here = d })) before here)
+
+pub placed_class : (settings : Settings) (s : LinkState) (ds : List Definition) → All (λ (x : Definition). IsShareable (section_class settings s x)) ds → All (λ (p : Placed). slice_get (sections_used (map (section_class settings s) ds)) p.section ≡ Some (section_class settings s p.definition)) (placed_of settings s ds)
+placed_class settings s =
+    by_end (λ ds. All (λ (x : Definition). IsShareable (section_class settings s x)) ds → All (StandsInClass settings s ds) (placed_of settings s ds)) (λ all. class_none settings s)
+    (λ ds d h all. class_more settings s ds d (h (All-front (λ (x : Definition). IsShareable (section_class settings s x)) ds d all)) all)

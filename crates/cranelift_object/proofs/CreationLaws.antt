@@ -105,6 +105,18 @@ function_stands f d last_f last_d (Func j ∷ ids) k h least most =
       above : (f k : ℕ) → f ≤ k → k ≢ f → f + 1 ≤ k
       above f k least ne = omega (arith, least, ne)
 
+-- each data object stands somewhere
+pub data_stands : (f d last_f last_d : ℕ) (ids : List FuncOrDataId) (k : ℕ) → IsNumbered f d ids last_f last_d → d ≤ k → k < last_d → (r : ℕ) × (slice_get ids r ≡ Some (Data k))
+data_stands f d last_f last_d [] k h least most = absurd (omega (arith, h.1, least, most))
+data_stands f d last_f last_d (Func j ∷ ids) k h least most = let rest = data_stands (f + 1) d last_f last_d ids k h.1 least most in (suc rest.0, rest.1)
+data_stands f d last_f last_d (Data j ∷ ids) k h least most =
+    elim (eqb_tells k d) [
+      | inl e ↦ (0, ap (λ n. Some (Data n)) (h.0 ∙ sym e.1))
+      | inr e ↦ (let rest = data_stands f (d + 1) last_f last_d ids k h.1 (above d k least e.1) most in (suc rest.0, rest.1))
+    ] where
+      above : (d k : ℕ) → d ≤ k → k ≢ d → d + 1 ≤ k
+      above d k least ne = omega (arith, least, ne)
+
 -- -- the numbers of one kind
 
 pub functions_in-append : (xs ys : List FuncOrDataId) → functions_in (xs ++ ys) ≡ functions_in xs ++ functions_in ys

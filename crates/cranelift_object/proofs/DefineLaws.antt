@@ -1,49 +1,55 @@
 -- What one definition of a module adds to its object.
-use Rattle.std.proofs.Common.{◌≡◌, ◌≢◌, ℕ, zero, suc, ◌+◌, ◌||◌, ◌<◌, ◌≤◌, ◌^◌, ◌++◌, ◌∷◌, length-take, List, [], Bool, true, false, cond, max, length, map, take, get_or, Option, Some, None, refl, ap, sym, ◌∙◌, subst, arith, inl, inr, append_assoc}
+use Rattle.std.proofs.Common.{◌≡◌, ◌≢◌, ℕ, zero, suc, ◌+◌, ◌||◌, ◌&&◌, not, ◌<◌, ◌≤◌, ◌^◌, ◌++◌, ◌∷◌, length-take, List, [], Bool, true, false, cond, max, length, map, take, get_or, Option, Some, None, refl, ap, sym, ◌∙◌, arith, inl, inr, append_assoc}
 use Rattle.std.proofs.lemmas.List.{append-nil, map-append, take_more, take_all, length-map}
-use Rattle.std.proofs.lemmas.List.Elements.{All-nil, All-push, All-take, All-map, All-weaker, All-head, All-tail, All-cons}
+use Rattle.std.proofs.lemmas.List.Elements.{All-take, All-weaker}
 use Rattle.std.proofs.lemmas.List.Sums.{sum_by-le}
+use Rattle.std.proofs.lemmas.Bool.{ltb-false}
+use Rattle.std.proofs.lemmas.Bool.Decides.{leb_tells}
 use Rattle.std.proofs.lemmas.Option.{slice_get_within, get_or_from_slice_get, slice_get-get_or, slice_get-map}
-use Rattle.std.proofs.lemmas.Bool.{cases_Bool}
-use Rattle.std.specs.Prelude.{slice_get, option_map, find}
+use Rattle.std.specs.Prelude.{slice_get, option_map, find, sum_by, nat_lt}
 use Rattle.std.specs.List.{All, list_any, range_with_len, enumerate_from}
 use Rattle.std.specs.Int.{is_power_of_two}
 use Rattle.std.proofs.Math.Nat.{mul-le-mul_right}
 use lib.Count.{ones}
 use Rattle.ir_core.specs.Moments.{moments, moments_after}
-use Rattle.ir_core.proofs.MomentLaws.{by_end}
 use Rattle.ir_core.specs.Target.{symbol_alignment}
 use Rattle.ir_core.specs.declared.target.Architecture.{Architecture}
 use Rattle.ir_core.specs.declared.target.Architecture.TheVariants.{X86_32, X86_64, Arm, Aarch64, Riscv64, S390x}
 use Rattle.ir_core.specs.declared.target.BinaryFormat.{BinaryFormat}
 use Rattle.ir_core.specs.declared.target.BinaryFormat.TheVariants.{Elf}
-use Rattle.object_core.specs.Standard.{is_zero_fill}
+use Rattle.object_core.specs.declared.kinds.SectionKind.{SectionKind}
+use Rattle.object_core.specs.declared.kinds.SectionKind.TheVariants as kind
+use Rattle.object_core.specs.Standard.{is_zero_fill, takes_no_bytes, standard_kind}
+use Rattle.object_core.specs.Places.{end_of}
 use Rattle.object_core.specs.declared.symbol.Symbol.{Symbol}
-use Rattle.object_core.specs.declared.kinds.SymbolSection.{SymbolSection}
-use Rattle.object_core.specs.Object.{SectionData, ObjectData}
-use Rattle.object_core.specs.Appending.{with_symbol, file_symbol, with_symbol_data, IsUndefined, HasBytes, is_unstored}
+use Rattle.object_core.specs.declared.kinds.SymbolSection.TheVariants.{Undefined}
+use Rattle.object_core.specs.Object.{ObjectData}
+use Rattle.object_core.specs.Appending.{with_symbol, file_symbol, IsUndefined, is_unstored, next_offset, room_in}
 use Rattle.cranelift_module.specs.declared.identifiers.FuncOrDataId.{FuncOrDataId}
 use Rattle.cranelift_module.specs.declared.identifiers.FuncOrDataId.TheVariants.{Func, Data}
-use Rattle.cranelift_module.specs.Call.{bytes}
+use Rattle.cranelift_module.specs.Call.{Contents, bytes, zeros}
 use Rattle.cranelift_module.specs.Rows.{FunctionRow, DataRow}
-use Rattle.cranelift_module.specs.Definitions.{Definition}
+use Rattle.cranelift_module.specs.Definitions.{Definition, size_of, is_thread_local}
 use Rattle.cranelift_module.specs.LinkState.{LinkState}
-use Rattle.cranelift_module.specs.Refusal.{is_same_identifier, is_defined}
+use Rattle.cranelift_module.specs.Refusal.{is_same_identifier, is_defined, is_bad_align}
 use Rattle.cranelift_object.specs.Settings.{Settings}
-use Rattle.cranelift_object.specs.Opened.{OpenModule, function_definition}
-use Rattle.cranelift_object.specs.Kept.{IsModule, IsBody, IsFirst, Marks}
-use Rattle.cranelift_object.specs.SectionClass.{Class, section_class}
-use Rattle.cranelift_object.specs.Placing.{Placed, share, sections_used, align_of, room_of}
+use Rattle.cranelift_object.specs.Opened.{OpenModule}
+use Rattle.cranelift_object.specs.Kept.{IsModule, IsBody, IsPlainBody, AreBytes, IsDeclared, IsFirst, Marks}
+use Rattle.cranelift_object.specs.SectionClass.{section_class, class_by_text, standard_section, data_section, initialized_section, is_empty_list, is_counted, are_counted}
+use Rattle.cranelift_object.specs.Placing.{Placed, sections_used, align_of, extent_of, standing_in}
 use Rattle.cranelift_object.specs.Linked as linked
-use Rattle.cranelift_object.specs.Linked.{defined_at, identifier_symbol, function_symbol, object_of}
+use Rattle.cranelift_object.specs.Linked.{defined_at, identifier_symbol, function_symbol, data_symbol, object_of, object_relocation, is_unstored_class}
 use Rattle.cranelift_object.specs.Partial.{placed_of, partial, opened, number_behind}
-use Rattle.cranelift_object.proofs.ClassLaws.{placed_definitions, used-end}
+use Rattle.cranelift_object.proofs.ChangeLaws.{changed_length}
+use Rattle.cranelift_object.proofs.ClassLaws.{placed_definitions, IsShareable, shareable, All-slice_get}
+use Rattle.cranelift_object.proofs.PlaceLaws.{asked, align_over, align_positive, standing_within}
 use Rattle.cranelift_object.proofs.FirstCause.{row_at}
-use Rattle.cranelift_object.specs.Product.{begun_object, with_function_section, function_section, function_mark, function_marks, data_mark, data_marks, symbol_number, product_of}
-use Rattle.cranelift_object.proofs.OpenLaws.{opened_own, opened_shared, number_own, number_text}
+use Rattle.cranelift_object.specs.Product.{begun_object, function_mark, function_marks, data_mark, data_marks, symbol_number, product_of, with_class, class_place, with_symbol_contents, with_relocations}
+use Rattle.cranelift_object.proofs.OpenLaws.{opened_class, number_class}
 use Rattle.cranelift_object.specs.Marking.{with_symbols, functions_in, data_in, marks_of_functions, marks_of_objects}
-use Rattle.cranelift_object.proofs.CreationLaws.{function_stands, place_is, places_apart, functions_in-append, data_in-append, functions_numbered, data_numbered, function_within, data_within}
-use Rattle.cranelift_object.proofs.ObjectLaws.{IsPlain, partial-end, partial_whole, opened_format, section_there, section_at, All-slice_get}
+use Rattle.cranelift_object.proofs.CreationLaws.{function_stands, data_stands, place_is, places_apart, functions_in-append, data_in-append, functions_numbered, data_numbered, function_within, data_within}
+use Rattle.cranelift_object.proofs.SymbolLaws.{IsPlain}
+use Rattle.cranelift_object.proofs.ObjectLaws.{partial-end, partial_whole, opened_format, opened_section, offset_there}
 
 -- -- definitions of a module
 
@@ -66,20 +72,23 @@ find_no : (same : Definition → Bool) (ps : List Placed) → list_any same (map
 find_no same [] h = refl
 find_no same (p ∷ ps) h = find_from same p ps (same p.definition) (find_no same ps) h
 
--- no definition before it is of the same function
-pub undefined_before : (o : OpenModule) (marks : Marks) (j function : ℕ) (contents : List ℕ) → IsModule o marks → slice_get o.state.definitions j ≡ Some (function_definition function contents) → defined_at (placed_of o.settings o.state (take j o.state.definitions)) (Func function) ≡ None
-undefined_before o marks j function contents h at =
-    let d : Definition = function_definition function contents in
+-- no definition before it is of the same identifier
+pub undefined_before : (o : OpenModule) (marks : Marks) (j : ℕ) (d : Definition) → IsModule o marks → slice_get o.state.definitions j ≡ Some d → defined_at (placed_of o.settings o.state (take j o.state.definitions)) d.identifier ≡ None
+undefined_before o marks j d h at =
     let ds : List Definition = o.state.definitions in
     let first = All-slice_get IsFirst (moments ds) j (record { before = take j ds; here = d }) h.apart (moment_at ds j d at) in
-    let same : Definition → Bool = λ e. is_same_identifier (Func function) e.identifier in
+    let same : Definition → Bool = λ e. is_same_identifier d.identifier e.identifier in
     find_no same (placed_of o.settings o.state (take j ds)) (ap (list_any same) (placed_definitions o.settings o.state (take j ds)) ∙ first)
 
 -- -- identifiers in order of creation
 
--- where a declared function stands
-pub created_at : (o : OpenModule) (marks : Marks) (k : ℕ) → IsModule o marks → k < length o.state.functions → (r : ℕ) × (slice_get o.state.created r ≡ Some (Func k))
-created_at o marks k h below = function_stands 0 0 (length o.state.functions) (length o.state.objects) o.state.created k h.order (omega arith) below
+created_by : (o : OpenModule) (marks : Marks) (id : FuncOrDataId) → IsModule o marks → IsDeclared (length o.state.functions) (length o.state.objects) id → (r : ℕ) × (slice_get o.state.created r ≡ Some id)
+created_by o marks (Func k) h below = function_stands 0 0 (length o.state.functions) (length o.state.objects) o.state.created k h.order (omega arith) below
+created_by o marks (Data k) h below = data_stands 0 0 (length o.state.functions) (length o.state.objects) o.state.created k h.order (omega arith) below
+
+-- where a declared identifier stands
+pub created_at : (o : OpenModule) (marks : Marks) (id : FuncOrDataId) → IsModule o marks → IsDeclared (length o.state.functions) (length o.state.objects) id → (r : ℕ) × (slice_get o.state.created r ≡ Some id)
+created_at o marks id h declared = created_by o marks id h declared
 
 -- the symbol of an identifier stands behind that of the file and those of the identifiers before it
 pub symbol_place : (o : OpenModule) (marks : Marks) (r : ℕ) (id : FuncOrDataId) → IsModule o marks → slice_get o.state.created r ≡ Some id → symbol_number o.state id ≡ suc r
@@ -87,47 +96,6 @@ symbol_place o marks r id h at = let place = place_is 0 0 (length o.state.functi
 
 pub created_apart : (o : OpenModule) (marks : Marks) (r i : ℕ) (y id : FuncOrDataId) → IsModule o marks → slice_get o.state.created r ≡ Some id → slice_get o.state.created i ≡ Some y → i ≢ r → is_same_identifier y id ≡ false
 created_apart o marks r i y id h there at ne = places_apart 0 0 (length o.state.functions) (length o.state.objects) o.state.created i r y id h.order at there ne
-
--- -- sections of functions have bytes
-
-pub All-front : {A : Type 0} (P : A → Type 0) (xs : List A) (x : A) → All P (xs ++ x ∷ []) → All P xs
-All-front P [] x all = All-nil P
-All-front P (y ∷ xs) x all = All-cons P y xs (All-head P y (xs ++ x ∷ []) all) (All-front P xs x (All-tail P y (xs ++ x ∷ []) all))
-
-pub All-last : {A : Type 0} (P : A → Type 0) (xs : List A) (x : A) → All P (xs ++ x ∷ []) → P x
-All-last P [] x all = All-head P x [] all
-All-last P (y ∷ xs) x all = All-last P xs x (All-tail P y (xs ++ x ∷ []) all)
-
-used_all_cond : (P : Class → Type 0) (cs : List Class) (c : Class) (b : Bool) → P c → All P cs → All P (cs ++ cond b [] (c ∷ []))
-used_all_cond P cs c true here all = rw append-nil all
-used_all_cond P cs c false here all = All-push P cs c all here
-
-used_all_none : (P : Class → Type 0) → All P [] → All P (sections_used [])
-unfolding sections_used moments
-used_all_none P all = all
-
-used_all_more : (P : Class → Type 0) (cs : List Class) (c : Class) → (All P cs → All P (sections_used cs)) → All P (cs ++ c ∷ []) → All P (sections_used (cs ++ c ∷ []))
-used_all_more P cs c before all =
-    rw (used-end cs c) (used_all_cond P (sections_used cs) c (list_any (share c) cs) (All-last P cs c all) (before (All-front P cs c all)))
-
--- what holds of each class holds of each section in use
-pub used_all : (P : Class → Type 0) (cs : List Class) → All P cs → All P (sections_used cs)
-used_all P = by_end (λ cs. All P cs → All P (sections_used cs)) (used_all_none P) (used_all_more P)
-
-pub text_kind : (settings : Settings) (s : LinkState) (count : ℕ) (d : Definition) → IsBody count d → is_zero_fill (section_class settings s d).kind ≡ false
-text_kind settings s count d body = rw body.is refl
-
--- each section in use is one of bytes
-pub text_kinds : (o : OpenModule) (marks : Marks) (j : ℕ) (d : Definition) → IsModule o marks → slice_get o.state.definitions j ≡ Some d
-    → All (λ (c : Class). is_zero_fill c.kind ≡ false) (sections_used (map (section_class o.settings o.state) (take j o.state.definitions) ++ section_class o.settings o.state d ∷ []))
-text_kinds o marks j d h at =
-    let n : ℕ = length o.state.functions in
-    let class : Definition → Class = section_class o.settings o.state in
-    let P : Class → Type 0 = λ c. is_zero_fill c.kind ≡ false in
-    let ds : List Definition = o.state.definitions in
-    let here = text_kind o.settings o.state n d (All-slice_get (IsBody n) ds j d h.bodies at) in
-    let before = All-map P class (take j ds) (All-weaker (IsBody n) (λ x. P (class x)) (λ x body. text_kind o.settings o.state n x body) (take j ds) (All-take (IsBody n) j ds h.bodies)) in
-    used_all P (map class (take j ds) ++ class d ∷ []) (All-push P (map class (take j ds)) (class d) before here)
 
 -- -- alignments
 
@@ -139,14 +107,6 @@ align_power Arm = refl
 align_power Aarch64 = refl
 align_power Riscv64 = refl
 align_power S390x = refl
-
-align_least : (architecture : Architecture) → max 1 (symbol_alignment architecture) ≡ symbol_alignment architecture
-align_least X86_32 = refl
-align_least X86_64 = refl
-align_least Arm = refl
-align_least Aarch64 = refl
-align_least Riscv64 = refl
-align_least S390x = refl
 
 align_most : (architecture : Architecture) → symbol_alignment architecture ≤ 4
 align_most X86_32 = omega arith
@@ -161,115 +121,244 @@ align_most S390x = omega arith
 front_more : {A : Type 0} (xs : List A) (j : ℕ) (x : A) → slice_get xs j ≡ Some x → take (j + 1) xs ≡ take j xs ++ x ∷ []
 front_more xs j x at = take_more xs j x (slice_get_within xs j x at) ∙ ap (λ y. take j xs ++ y ∷ []) (get_or_from_slice_get xs j x x at)
 
--- the object with one more definition has its contents behind those of its section
-pub definition_step : (o : OpenModule) (marks : Marks) (j function : ℕ) (contents : List ℕ) → IsModule o marks → slice_get o.state.definitions j ≡ Some (function_definition function contents) → function < length o.state.functions
+-- what holds of a definition by its number
+pub body_at : (o : OpenModule) (marks : Marks) (j : ℕ) (d : Definition) → IsModule o marks → slice_get o.state.definitions j ≡ Some d → IsBody o.state.target (length o.state.functions) (length o.state.objects) d
+body_at o marks j d h at = All-slice_get (IsBody o.state.target (length o.state.functions) (length o.state.objects)) o.state.definitions j d h.bodies at
+
+body_shareable : (o : OpenModule) (d : Definition) → IsBody o.state.target (length o.state.functions) (length o.state.objects) d → IsShareable (section_class o.settings o.state d)
+body_shareable o d body = shareable o.settings o.state d body.plain
+
+-- the sections of the definitions before it may be shared as their classes say
+pub before_shareable : (o : OpenModule) (marks : Marks) (j : ℕ) → IsModule o marks → All (λ (x : Definition). IsShareable (section_class o.settings o.state x)) (take j o.state.definitions)
+before_shareable o marks j h =
+    let bodies : Definition → Type 0 = IsBody o.state.target (length o.state.functions) (length o.state.objects) in
+    All-weaker bodies (λ (x : Definition). IsShareable (section_class o.settings o.state x)) (λ x body. body_shareable o x body) (take j o.state.definitions) (All-take bodies j o.state.definitions h.bodies)
+
+-- -- sections with and without bytes
+
+custom_stored : (b : Bool) → is_zero_fill (cond b kind.ReadOnlyData kind.Data) ≡ false
+custom_stored true = refl
+custom_stored false = refl
+
+custom_counted : (c : Contents) (text : List ℕ) → are_counted c (Some text) ≡ false
+custom_counted (bytes xs) text = refl
+custom_counted (zeros n) text = refl
+
+initialized_stored : (writable plain : Bool) → is_zero_fill (standard_kind (initialized_section writable plain)) ≡ false
+initialized_stored true plain = refl
+initialized_stored false true = refl
+initialized_stored false false = refl
+
+data_counted : (tls : Bool) (d : Definition) (c : Contents) → is_zero_fill (standard_kind (data_section tls d c)) ≡ are_counted c None
+data_counted true d (zeros n) = refl
+data_counted false d (zeros n) = refl
+data_counted true d (bytes xs) = refl
+data_counted false d (bytes xs) = initialized_stored d.writable (is_empty_list d.relocs)
+
+bytes_counted : (c : Contents) (section : Option (List ℕ)) → AreBytes c → are_counted c section ≡ false
+bytes_counted (bytes xs) section h = refl
+bytes_counted (zeros n) section h = absurd h
+
+standard_counted : (s : LinkState) (d : Definition) (id : FuncOrDataId) → IsPlainBody id d.contents d.section d.used → d.section ≡ None → is_zero_fill (standard_kind (standard_section s d id)) ≡ are_counted d.contents d.section
+standard_counted s d (Func k) plain e = sym (bytes_counted d.contents d.section plain.0)
+standard_counted s d (Data k) plain e = data_counted (is_thread_local (slice_get s.objects k)) d d.contents ∙ ap (are_counted d.contents) (sym e)
+
+counted_by : (settings : Settings) (s : LinkState) (d : Definition) (text : Option (List ℕ)) → d.section ≡ text → IsPlainBody d.identifier d.contents d.section d.used → is_zero_fill (class_by_text settings s d text).kind ≡ are_counted d.contents d.section
+counted_by settings s d (Some text) e plain = custom_stored (not d.writable && is_empty_list d.relocs) ∙ sym (ap (are_counted d.contents) e ∙ custom_counted d.contents text)
+counted_by settings s d None e plain = standard_counted s d d.identifier plain e
+
+unstored_elf : (format : BinaryFormat) (k : SectionKind) (flags : ℕ) → format ≡ Elf → takes_no_bytes format k flags ≡ is_zero_fill k
+unstored_elf format k flags e = rw e refl
+
+-- the section of a definition takes no bytes exactly where its contents are zeros under no text
+pub class_counted : (settings : Settings) (s : LinkState) (d : Definition) → s.target.triple.binary_format ≡ Elf → IsPlainBody d.identifier d.contents d.section d.used → is_unstored_class s (section_class settings s d) ≡ is_counted d
+class_counted settings s d elf plain =
+    unstored_elf s.target.triple.binary_format (section_class settings s d).kind (section_class settings s d).macho_flags elf ∙ counted_by settings s d d.section refl plain
+
+-- -- one more definition
+
+-- the object with one more definition has its contents behind those of its section, and its relocations
+pub definition_step : (o : OpenModule) (marks : Marks) (j : ℕ) (d : Definition) → IsModule o marks → slice_get o.state.definitions j ≡ Some d
     → partial o.settings o.state (take (j + 1) o.state.definitions)
-    ≡ with_symbol_data (opened o.settings o.state (take j o.state.definitions) (function_definition function contents)) (symbol_number o.state (Func function)) (number_behind o.settings o.state (take j o.state.definitions) (function_definition function contents)) contents (symbol_alignment o.state.target.triple.architecture)
-definition_step o marks j function contents h at below =
-    let d : Definition = function_definition function contents in
+    ≡ with_relocations
+    (with_symbol_contents (is_counted d) (opened o.settings o.state (take j o.state.definitions) d) (symbol_number o.state d.identifier) (number_behind o.settings o.state (take j o.state.definitions) d) d.contents (align_of o.state d))
+    (number_behind o.settings o.state (take j o.state.definitions) d)
+    (map (object_relocation o.settings o.state (next_offset (opened o.settings o.state (take j o.state.definitions) d) (number_behind o.settings o.state (take j o.state.definitions) d) (align_of o.state d))) d.relocs)
+definition_step o marks j d h at =
     let ds : List Definition = o.state.definitions in
-    let row = row_at o.state.functions function below in
-    let there = created_at o marks function h below in
+    let body = body_at o marks j d h at in
+    let there = created_at o marks d.identifier h body.declared in
+    let n : ℕ = number_behind o.settings o.state (take j ds) d in
     let step =
-    partial-end o.settings o.state (take j ds) d function there.0 row.0 h.begun.format refl refl row.1 (undefined_before o marks j function contents h at) there.1 (λ i y found ne. created_apart o marks there.0 i y (Func function) h there.1 found ne)
-    (text_kinds o marks j d h at)
+    partial-end (is_counted d) o.settings o.state (take j ds) d there.0 (before_shareable o marks j h) (body_shareable o d body) (class_counted o.settings o.state d h.begun.format body.plain) body.declared (undefined_before o marks j d h at) there.1
+    (λ i y found ne. created_apart o marks there.0 i y d.identifier h there.1 found ne)
     in
     ap (partial o.settings o.state) (front_more ds j d at) ∙ step
-    ∙ ap (with_symbol_data (opened o.settings o.state (take j ds) d) (suc there.0) (number_behind o.settings o.state (take j ds) d) contents) (align_least o.state.target.triple.architecture)
-    ∙ ap (λ (n : ℕ). with_symbol_data (opened o.settings o.state (take j ds) d) n (number_behind o.settings o.state (take j ds) d) contents (symbol_alignment o.state.target.triple.architecture)) (sym (symbol_place o marks there.0 (Func function) h there.1))
+    ∙ ap (λ (symbol : ℕ). with_relocations (with_symbol_contents (is_counted d) (opened o.settings o.state (take j ds) d) symbol n d.contents (align_of o.state d)) n (map (object_relocation o.settings o.state (next_offset (opened o.settings o.state (take j ds) d) n (align_of o.state d))) d.relocs))
+    (sym (symbol_place o marks there.0 d.identifier h there.1))
 
 -- -- what the calls of an object ask for
 
--- the symbol of the function is not defined yet
-pub opened_undefined : (o : OpenModule) (marks : Marks) (j function : ℕ) (contents : List ℕ) → IsModule o marks → slice_get o.state.definitions j ≡ Some (function_definition function contents) → function < length o.state.functions
-    → IsUndefined (opened o.settings o.state (take j o.state.definitions) (function_definition function contents)) (symbol_number o.state (Func function))
+undefined_function : (s : LinkState) (ps : List Placed) (k : ℕ) → k < length s.functions → defined_at ps (Func k) ≡ None → option_map (λ (t : Symbol). t.section) (Some (identifier_symbol s ps (Func k))) ≡ Some Undefined
+undefined_function s ps k below none =
+    let row = row_at s.functions k below in
+    ap (λ (r : Option FunctionRow). Some (function_symbol ps k r).section) row.1 ∙ ap (λ (p : Option Placed). Some (linked.symbol_place p)) none
+
+undefined_data : (s : LinkState) (ps : List Placed) (k : ℕ) → k < length s.objects → defined_at ps (Data k) ≡ None → option_map (λ (t : Symbol). t.section) (Some (identifier_symbol s ps (Data k))) ≡ Some Undefined
+undefined_data s ps k below none =
+    let row = row_at s.objects k below in
+    ap (λ (r : Option DataRow). Some (data_symbol ps k r).section) row.1 ∙ ap (λ (p : Option Placed). Some (linked.symbol_place p)) none
+
+undefined_identifier : (s : LinkState) (ps : List Placed) (id : FuncOrDataId) → IsDeclared (length s.functions) (length s.objects) id → defined_at ps id ≡ None → option_map (λ (t : Symbol). t.section) (Some (identifier_symbol s ps id)) ≡ Some Undefined
+undefined_identifier s ps (Func k) declared none = undefined_function s ps k declared none
+undefined_identifier s ps (Data k) declared none = undefined_data s ps k declared none
+
+-- the symbol of what is defined next is not defined yet
+pub opened_undefined : (o : OpenModule) (marks : Marks) (j : ℕ) (d : Definition) → IsModule o marks → slice_get o.state.definitions j ≡ Some d → IsUndefined (opened o.settings o.state (take j o.state.definitions) d) (symbol_number o.state d.identifier)
 unfolding opened
-opened_undefined o marks j function contents h at below =
+opened_undefined o marks j d h at =
     let ps : List Placed = placed_of o.settings o.state (take j o.state.definitions) in
-    let row = row_at o.state.functions function below in
-    let place : Option Symbol → Option SymbolSection = option_map (λ (t : Symbol). t.section) in
-    let created = created_at o marks function h below in
+    let body = body_at o marks j d h at in
+    let created = created_at o marks d.identifier h body.declared in
     let there = slice_get-map (identifier_symbol o.state ps) o.state.created created.0 ∙ ap (option_map (identifier_symbol o.state ps)) created.1 in
-    let known = ap (λ (r : Option FunctionRow). Some (function_symbol ps function r)) row.1 in
-    let none = ap (λ (p : Option Placed). Some (linked.symbol_place p)) (undefined_before o marks j function contents h at) in
-    rw (symbol_place o marks created.0 (Func function) h created.1) (ap place (there ∙ known) ∙ none)
+    rw (symbol_place o marks created.0 d.identifier h created.1) (ap (option_map (λ (t : Symbol). t.section)) there ∙ undefined_identifier o.state ps d.identifier body.declared (undefined_before o marks j d h at))
 
--- its section has bytes
-pub opened_bytes : (o : OpenModule) (marks : Marks) (j : ℕ) (d : Definition) → IsModule o marks → slice_get o.state.definitions j ≡ Some d
-    → HasBytes (opened o.settings o.state (take j o.state.definitions) d) (number_behind o.settings o.state (take j o.state.definitions) d)
-unfolding opened
-opened_bytes o marks j d h at =
+-- its section takes bytes or none, as its contents do
+pub opened_stored : (o : OpenModule) (marks : Marks) (j : ℕ) (d : Definition) → IsModule o marks → slice_get o.state.definitions j ≡ Some d
+    → option_map (is_unstored (opened o.settings o.state (take j o.state.definitions) d).format) (slice_get (opened o.settings o.state (take j o.state.definitions) d).sections (number_behind o.settings o.state (take j o.state.definitions) d)) ≡ Some (is_counted d)
+opened_stored o marks j d h at =
     let ds : List Definition = take j o.state.definitions in
-    let classes : List Class = sections_used (map (section_class o.settings o.state) ds ++ section_class o.settings o.state d ∷ []) in
-    let n : ℕ = number_behind o.settings o.state ds d in
-    let there = section_there o.settings o.state ds d in
-    let kind = All-slice_get (λ (c : Class). is_zero_fill c.kind ≡ false) classes n there.0 (text_kinds o marks j d h at) there.1 in
-    let section = section_at o.settings o.state (placed_of o.settings o.state ds) classes 0 n n there.0 there.1 (omega arith) in
-    let sections : List SectionData = (opened o.settings o.state ds d).sections in
-    let bytes : option_map (is_unstored Elf) (slice_get sections n) ≡ Some false = ap (option_map (λ (x : SectionData). is_zero_fill x.kind)) section ∙ ap Some kind in
-    let elf : (opened o.settings o.state ds d).format ≡ Elf = opened_format o.settings o.state ds d ∙ h.begun.format in
-    subst (λ (format : BinaryFormat). option_map (is_unstored format) (slice_get sections n) ≡ Some false) (sym elf) bytes
+    let body = body_at o marks j d h at in
+    let section = opened_section o.settings o.state ds d (before_shareable o marks j h) (body_shareable o d body) in
+    ap (λ (format : BinaryFormat). option_map (is_unstored format) (slice_get (opened o.settings o.state ds d).sections (number_behind o.settings o.state ds d))) (opened_format o.settings o.state ds d)
+    ∙ ap (option_map (is_unstored o.state.target.triple.binary_format)) section ∙ ap Some (class_counted o.settings o.state d h.begun.format body.plain)
 
-small_room : (o : OpenModule) (count : ℕ) (d : Definition) → IsBody count d → room_of d + align_of o.state d ≤ 9223372036854775812
-small_room o count d body =
-    let small : length body.contents < 2 ^ 63 = body.small in
-    let most = align_most o.state.target.triple.architecture in
-    rw body.is (omega (arith, small, most))
+-- its section is there
+pub opened_there : (o : OpenModule) (marks : Marks) (j : ℕ) (d : Definition) → IsModule o marks → slice_get o.state.definitions j ≡ Some d → number_behind o.settings o.state (take j o.state.definitions) d < length (opened o.settings o.state (take j o.state.definitions) d).sections
+opened_there o marks j d h at =
+    let ds : List Definition = take j o.state.definitions in
+    slice_get_within (opened o.settings o.state ds d).sections (number_behind o.settings o.state ds d) _ (opened_section o.settings o.state ds d (before_shareable o marks j h) (body_shareable o d (body_at o marks j d h at)))
+
+or_left : (a b : Bool) → (a || b) ≡ false → a ≡ false
+or_left true b h = absurd (cc)
+or_left false b h = refl
+
+or_right : (a b : Bool) → (a || b) ≡ false → b ≡ false
+or_right true b h = absurd (cc)
+or_right false b h = h
+
+not_false : (b : Bool) → not b ≡ false → b ≡ true
+not_false true h = refl
+not_false false h = absurd (cc)
+
+-- a good alignment is a power of two
+pub good_power : (align : ℕ) → is_bad_align align ≡ false → is_power_of_two align ≡ true
+good_power align h = not_false (is_power_of_two align) (or_left (not (is_power_of_two align)) (nat_lt 65536 align) h)
+
+good_most : (align : ℕ) → is_bad_align align ≡ false → align ≤ 65536
+good_most align h = ltb-false 65536 align (or_right (not (is_power_of_two align)) (nat_lt 65536 align) h)
+
+max_power : (a b : ℕ) → is_power_of_two a ≡ true → is_power_of_two b ≡ true → is_power_of_two (max a b) ≡ true
+max_power a b h k =
+    elim (leb_tells a b) [
+      | inl e ↦ (let same : max a b ≡ b = omega (arith, e.1) in rw same k)
+      | inr e ↦ (let same : max a b ≡ a = omega (arith, e.1) in rw same h)
+    ]
+
+-- so is the one at which a definition stands
+pub aligned_power : (s : LinkState) (d : Definition) → is_bad_align d.align ≡ false → is_power_of_two (align_of s d) ≡ true
+aligned_power s d h = max_power d.align (symbol_alignment s.target.triple.architecture) (good_power d.align h) (align_power s.target.triple.architecture)
+
+zero_power : (n : ℕ) → is_power_of_two n ≡ true → 1 ≤ n
+unfolding ones
+zero_power zero h = absurd (cc)
+zero_power (suc n) h = omega arith
+
+pub good_least : (align : ℕ) → is_bad_align align ≡ false → 1 ≤ align
+good_least align h = zero_power align (good_power align h)
+
+pub align_within : (s : LinkState) (d : Definition) → is_bad_align d.align ≡ false → align_of s d ≤ 65536
+align_within s d h = let most = good_most d.align h in let other = align_most s.target.triple.architecture in omega (arith, most, other)
+
+pub room_elf : (format : BinaryFormat) (size : ℕ) → format ≡ Elf → room_in format size ≡ size
+room_elf format size e = rw e refl
+
+small_room : (o : OpenModule) (marks : Marks) (d : Definition) → IsModule o marks → IsBody o.state.target (length o.state.functions) (length o.state.objects) d → asked o.state d ≤ 18446744073709617152
+small_room o marks d h body =
+    let sized : size_of d.contents < 2 ^ 64 = body.sized in
+    let room = room_elf o.state.target.triple.binary_format (size_of d.contents) h.begun.format in
+    let align = align_within o.state d body.aligned in
+    omega (arith, sized, room, align)
 
 -- so few bytes are asked for
-pub opened_sum : (o : OpenModule) (marks : Marks) (j : ℕ) (d : Definition) → IsModule o marks → length o.state.definitions < 2 ^ 63 → (opened o.settings o.state (take j o.state.definitions) d).content_sum < 2 ^ 127
-unfolding opened
-opened_sum o marks j d h few =
-    let n : ℕ = length o.state.functions in
+pub asked_sum : (o : OpenModule) (marks : Marks) (j : ℕ) → IsModule o marks → length o.state.definitions < 2 ^ 63 → sum_by (asked o.state) (take j o.state.definitions) < 2 ^ 127 + 2 ^ 126
+asked_sum o marks j h few =
     let ds : List Definition = take j o.state.definitions in
-    let asked : Definition → ℕ = λ x. room_of x + align_of o.state x in
-    let each = All-weaker (IsBody n) (λ x. asked x ≤ 9223372036854775812) (λ x body. small_room o n x body) ds (All-take (IsBody n) j o.state.definitions h.bodies) in
-    let sum = sum_by-le asked 9223372036854775812 ds each in
+    let bodies : Definition → Type 0 = IsBody o.state.target (length o.state.functions) (length o.state.objects) in
+    let each = All-weaker bodies (λ x. asked o.state x ≤ 18446744073709617152) (λ x body. small_room o marks x h body) ds (All-take bodies j o.state.definitions h.bodies) in
+    let sum = sum_by-le (asked o.state) 18446744073709617152 ds each in
     let front = length-take j o.state.definitions in
     let bound : length ds ≤ 9223372036854775807 = omega arith in
-    let product = mul-le-mul_right 9223372036854775812 bound in
+    let product = mul-le-mul_right 18446744073709617152 bound in
     omega (arith, sum, product)
 
--- -- the section of one more function, by what an object offers
+pub opened_sum : (o : OpenModule) (marks : Marks) (j : ℕ) (d : Definition) → IsModule o marks → length o.state.definitions < 2 ^ 63 → (opened o.settings o.state (take j o.state.definitions) d).content_sum < 2 ^ 127 + 2 ^ 126
+unfolding opened
+opened_sum o marks j d h few = asked_sum o marks j h few
 
-taken_true : {A : Type 0} (b : Bool) (x y : A) → b ≡ true → cond b x y ≡ x
-taken_true true x y h = refl
-taken_true false x y h = absurd (cc)
-
-taken_false : {A : Type 0} (b : Bool) (x y : A) → b ≡ false → cond b x y ≡ y
-taken_false true x y h = absurd (cc)
-taken_false false x y h = refl
-
-pub function_opened : (settings : Settings) (s : LinkState) (ds : List Definition) (function : ℕ) (contents : List ℕ) → opened settings s ds (function_definition function contents) ≡ with_function_section settings (partial settings s ds)
-function_opened settings s ds function contents =
-    elim (cases_Bool settings.function_sections) [
-      | inl own ↦ opened_own settings s ds function contents own ∙ sym (taken_true settings.function_sections _ _ own)
-      | inr shared ↦ opened_shared settings s ds function contents shared ∙ sym (taken_false settings.function_sections _ _ shared)
-    ]
-
-pub function_number : (settings : Settings) (s : LinkState) (ds : List Definition) (function : ℕ) (contents : List ℕ) → function_section settings (partial settings s ds) ≡ number_behind settings s ds (function_definition function contents)
-function_number settings s ds function contents =
-    elim (cases_Bool settings.function_sections) [
-      | inl own ↦ taken_true settings.function_sections _ _ own ∙ sym (number_own settings s ds function contents own)
-      | inr shared ↦ taken_false settings.function_sections _ _ shared ∙ number_text settings s ds function contents shared
-    ]
+-- and so far at most a definition stands
+pub opened_offset : (o : OpenModule) (marks : Marks) (j : ℕ) (d : Definition) → IsModule o marks → length o.state.definitions < 2 ^ 63 → slice_get o.state.definitions j ≡ Some d
+    → next_offset (opened o.settings o.state (take j o.state.definitions) d) (number_behind o.settings o.state (take j o.state.definitions) d) (align_of o.state d) < 2 ^ 127 + 2 ^ 126 + 65536
+opened_offset o marks j d h few at =
+    let ds : List Definition = take j o.state.definitions in
+    let body = body_at o marks j d h at in
+    let n : ℕ = number_behind o.settings o.state ds d in
+    let there = offset_there o.settings o.state ds d (before_shareable o marks j h) (body_shareable o d body) in
+    let least = All-weaker (IsBody o.state.target (length o.state.functions) (length o.state.objects)) (λ (x : Definition). 1 ≤ x.align) (λ x b. good_least x.align b.aligned) ds (All-take (IsBody o.state.target (length o.state.functions) (length o.state.objects)) j o.state.definitions h.bodies) in
+    let end = standing_within o.settings o.state n ds least in
+    let over = align_over (end_of (map (extent_of o.state) (standing_in o.settings o.state n ds))) (align_of o.state d) (align_positive o.state d (good_least d.align body.aligned)) in
+    let sum = asked_sum o marks j h few in
+    let align = align_within o.state d body.aligned in
+    rw there (omega (arith, end, over, sum, align))
 
 -- -- a definition in hand
 
--- the definition of this number is this body of a declared function
-pub record IsAdding (o : OpenModule) (number function : ℕ) (contents : List ℕ) : Type 0 where
-  pub found : slice_get o.state.definitions number ≡ Some (function_definition function contents)
-  pub declared : function < length o.state.functions
+-- the definition of this number is in hand
+pub adding : (o : OpenModule) (number : ℕ) (d : Definition) → number < length o.state.definitions → d ≡ get_or o.state.definitions number d → slice_get o.state.definitions number ≡ Some d
+adding o number d below at = slice_get-get_or o.state.definitions number d below ∙ ap Some (sym at)
 
-pub adding : (o : OpenModule) (marks : Marks) (number function : ℕ) (xs : List ℕ) (d : Definition) → IsModule o marks → number < length o.state.definitions → d ≡ get_or o.state.definitions number d → d.identifier ≡ Func function → d.contents ≡ bytes xs → IsAdding o number function xs
-adding o marks number function xs d h below at named holds =
-    let there : slice_get o.state.definitions number ≡ Some d = slice_get-get_or o.state.definitions number d below ∙ ap Some (sym at) in
-    let body = All-slice_get (IsBody (length o.state.functions)) o.state.definitions number d h.bodies there in
-    let same : Func body.function ≡ Func function = sym (ap (λ (x : Definition). x.identifier) body.is) ∙ named in
-    let equal : body.function ≡ function = cc in
-    let whole : bytes body.contents ≡ bytes xs = sym (ap (λ (x : Definition). x.contents) body.is) ∙ holds in
-    let contents : body.contents ≡ xs = cc in
-    record { found = there ∙ ap Some body.is ∙ ap (λ (f : ℕ). Some (function_definition f body.contents)) equal ∙ ap (λ (ys : List ℕ). Some (function_definition function ys)) contents; declared = rw (← equal) body.declared }
+-- the object with a section for one more definition
+pub later_is : (o : OpenModule) (marks : Marks) (j : ℕ) (d : Definition) (object later : ObjectData) → IsModule o marks → slice_get o.state.definitions j ≡ Some d → object ≡ partial o.settings o.state (take j o.state.definitions) → later ≡ with_class object (section_class o.settings o.state d)
+    → later ≡ opened o.settings o.state (take j o.state.definitions) d
+later_is o marks j d object later h at e f =
+    f ∙ ap (λ (x : ObjectData). with_class x (section_class o.settings o.state d)) e ∙ sym (opened_class o.settings o.state (take j o.state.definitions) d (body_shareable o d (body_at o marks j d h at)))
+
+pub section_is : (o : OpenModule) (j : ℕ) (d : Definition) (object : ObjectData) (section : ℕ) → object ≡ partial o.settings o.state (take j o.state.definitions) → section ≡ class_place object (section_class o.settings o.state d) → section ≡ number_behind o.settings o.state (take j o.state.definitions) d
+section_is o j d object section e f = f ∙ ap (λ (x : ObjectData). class_place x (section_class o.settings o.state d)) e ∙ number_class o.settings o.state (take j o.state.definitions) d
+
+counted_length : (b : Bool) (o : ObjectData) (symbol section align : ℕ) (contents : Contents) → length (with_symbol_contents b o symbol section contents align).sections ≡ length o.sections
+counted_length true o symbol section align contents = changed_length section _ o.sections
+counted_length false o symbol section align contents = changed_length section _ o.sections
+
+-- contents leave as many sections
+pub contents_sections : (b : Bool) (o left : ObjectData) (symbol section align : ℕ) (contents : Contents) → left ≡ with_symbol_contents b o symbol section contents align → length left.sections ≡ length o.sections
+contents_sections b o left symbol section align contents e = ap (λ (x : ObjectData). length x.sections) e ∙ counted_length b o symbol section align contents
+
+-- what the calls leave
+pub adds : (o : OpenModule) (marks : Marks) (j symbol section align offset : ℕ) (d : Definition) (later grown left : ObjectData) → IsModule o marks → slice_get o.state.definitions j ≡ Some d → later ≡ opened o.settings o.state (take j o.state.definitions) d
+    → section ≡ number_behind o.settings o.state (take j o.state.definitions) d → symbol ≡ symbol_number o.state d.identifier → align ≡ align_of o.state d → offset ≡ next_offset later section align → grown ≡ with_symbol_contents (is_counted d) later symbol section d.contents align
+    → left ≡ with_relocations grown section (map (object_relocation o.settings o.state offset) d.relocs)
+    → left ≡ partial o.settings o.state (take (j + 1) o.state.definitions)
+adds o marks j symbol section align offset d later grown left h at now place named aligned stands holds ends =
+    ends ∙ (rw (stands, holds, now, place, named, aligned) (sym (definition_step o marks j d h at)))
+
+pub bodies_plain : (o : OpenModule) (marks : Marks) → IsModule o marks → All IsPlain o.state.definitions
+bodies_plain o marks h = All-weaker (IsBody o.state.target (length o.state.functions) (length o.state.objects)) IsPlain (λ d body. body.targets) o.state.definitions h.bodies
+
+-- once all definitions are there, the object is that of the state
+pub all_added : (o : OpenModule) (marks : Marks) (n : ℕ) (object : ObjectData) → IsModule o marks → length o.state.definitions ≤ n → object ≡ partial o.settings o.state (take n o.state.definitions) → object ≡ object_of o.settings o.state
+all_added o marks n object h past e =
+    e ∙ ap (partial o.settings o.state) (take_all n o.state.definitions past) ∙ partial_whole o.settings o.state (bodies_plain o marks h)
 
 -- -- the symbols of functions
 
@@ -281,9 +370,9 @@ marked_at s (row ∷ rows) i zero j below e =
     rw here refl
 marked_at s (row ∷ rows) i (suc k) j below e = marked_at s rows (i + 1) k j (omega arith) (omega arith)
 
-pub mark_at : (o : OpenModule) (marks : Marks) (k : ℕ) → IsModule o marks → k < length o.state.functions → slice_get (function_marks o.state) k ≡ Some (function_mark o.state k)
+mark_at : (s : LinkState) (k : ℕ) → k < length s.functions → slice_get (function_marks s) k ≡ Some (function_mark s k)
 unfolding function_marks
-mark_at o marks k h below = marked_at o.state o.state.functions 0 k k below (omega arith)
+mark_at s k below = marked_at s s.functions 0 k k below (omega arith)
 
 marks_long : (s : LinkState) (i : ℕ) (rows : List FunctionRow) → length (map (λ (row : ℕ × FunctionRow). function_mark s row.0) (enumerate_from i rows)) ≡ length rows
 marks_long s i [] = refl
@@ -294,37 +383,36 @@ unfolding function_marks
 marks_length s = marks_long s 0 s.functions
 
 -- the symbol in the row of a function
-pub symbol_in_row : (o : OpenModule) (marks : Marks) (rows : List (ℕ × Bool)) (i k : ℕ) (row : ℕ × Bool) → IsModule o marks → rows ≡ function_marks o.state → k < length o.state.functions → i ≡ k → (get_or rows i row).0 ≡ symbol_number o.state (Func k)
-symbol_in_row o marks rows i k row h e below same =
-    let there = get_or_from_slice_get (function_marks o.state) k (function_mark o.state k) row (mark_at o marks k h below) in
+pub symbol_in_row : (s : LinkState) (rows : List (ℕ × Bool)) (i k : ℕ) (row : ℕ × Bool) → rows ≡ function_marks s → k < length s.functions → i ≡ k → (get_or rows i row).0 ≡ symbol_number s (Func k)
+symbol_in_row s rows i k row e below same =
+    let there = get_or_from_slice_get (function_marks s) k (function_mark s k) row (mark_at s k below) in
     ap (λ (j : ℕ). (get_or rows j row).0) same ∙ ap (λ (rs : List (ℕ × Bool)). (get_or rs k row).0) e ∙ ap (λ (r : ℕ × Bool). r.0) there
 
--- the object with a section for one more function
-pub later_is : (settings : Settings) (s : LinkState) (ds : List Definition) (object later : ObjectData) (function : ℕ) (contents : List ℕ) → object ≡ partial settings s ds → later ≡ with_function_section settings object → later ≡ opened settings s ds (function_definition function contents)
-later_is settings s ds object later function contents e f = f ∙ ap (with_function_section settings) e ∙ sym (function_opened settings s ds function contents)
+-- the marks of data objects by number
+data_marked_at : (s : LinkState) (rows : List DataRow) (i k j : ℕ) → k < length rows → j ≡ i + k → slice_get (map (λ (row : ℕ × DataRow). data_mark s row.0) (enumerate_from i rows)) k ≡ Some (data_mark s j)
+data_marked_at s [] i k j below e = absurd (omega arith)
+data_marked_at s (row ∷ rows) i zero j below e =
+    let here : j ≡ i = omega arith in
+    rw here refl
+data_marked_at s (row ∷ rows) i (suc k) j below e = data_marked_at s rows (i + 1) k j (omega arith) (omega arith)
 
-pub section_is : (settings : Settings) (s : LinkState) (ds : List Definition) (object : ObjectData) (section function : ℕ) (contents : List ℕ) → object ≡ partial settings s ds → section ≡ function_section settings object → section ≡ number_behind settings s ds (function_definition function contents)
-section_is settings s ds object section function contents e f = f ∙ ap (function_section settings) e ∙ function_number settings s ds function contents
+data_marks_long : (s : LinkState) (i : ℕ) (rows : List DataRow) → length (map (λ (row : ℕ × DataRow). data_mark s row.0) (enumerate_from i rows)) ≡ length rows
+data_marks_long s i [] = refl
+data_marks_long s i (row ∷ rows) = let rest = data_marks_long s (i + 1) rows in omega (arith, rest)
 
--- what the call leaves
-pub adds : (o : OpenModule) (marks : Marks) (number function symbol section align : ℕ) (contents : List ℕ) (object later left : ObjectData) → IsModule o marks → IsAdding o number function contents → object ≡ partial o.settings o.state (take number o.state.definitions)
-    → later ≡ with_function_section o.settings object → section ≡ function_section o.settings object → symbol ≡ symbol_number o.state (Func function) → align ≡ symbol_alignment o.state.target.triple.architecture → left ≡ with_symbol_data later symbol section contents align
-    → left ≡ partial o.settings o.state (take (number + 1) o.state.definitions)
-adds o marks number function symbol section align contents object later left h add e f g named aligned ends =
-    let ds : List Definition = take number o.state.definitions in
-    let now = later_is o.settings o.state ds object later function contents e f in
-    let place = section_is o.settings o.state ds object section function contents e g in
-    ends
-    ∙ (rw (now, named, place, aligned) (sym (definition_step o marks number function contents h add.found add.declared)))
+pub data_marks_length : (s : LinkState) → length (data_marks s) ≡ length s.objects
+unfolding data_marks
+data_marks_length s = data_marks_long s 0 s.objects
 
-pub body_plain : (count : ℕ) (d : Definition) → IsBody count d → d.relocs ≡ []
-body_plain count d body = ap (λ (x : Definition). x.relocs) body.is
+object_mark_at : (s : LinkState) (k : ℕ) → k < length s.objects → slice_get (data_marks s) k ≡ Some (data_mark s k)
+unfolding data_marks
+object_mark_at s k below = data_marked_at s s.objects 0 k k below (omega arith)
 
--- once all definitions are there, the object is that of the state
-pub all_added : (o : OpenModule) (marks : Marks) (n : ℕ) (object : ObjectData) → IsModule o marks → length o.state.definitions ≤ n → object ≡ partial o.settings o.state (take n o.state.definitions) → object ≡ object_of o.settings o.state
-all_added o marks n object h past e =
-    let plain = All-weaker (IsBody (length o.state.functions)) IsPlain (λ d body. body_plain (length o.state.functions) d body) o.state.definitions h.bodies in
-    e ∙ ap (partial o.settings o.state) (take_all n o.state.definitions past) ∙ partial_whole o.settings o.state plain
+-- the symbol in the row of a data object
+pub symbol_in_data_row : (s : LinkState) (rows : List (ℕ × Bool)) (i k : ℕ) (row : ℕ × Bool) → rows ≡ data_marks s → k < length s.objects → i ≡ k → (get_or rows i row).0 ≡ symbol_number s (Data k)
+symbol_in_data_row s rows i k row e below same =
+    let there = get_or_from_slice_get (data_marks s) k (data_mark s k) row (object_mark_at s k below) in
+    ap (λ (j : ℕ). (get_or rows j row).0) same ∙ ap (λ (rs : List (ℕ × Bool)). (get_or rs k row).0) e ∙ ap (λ (r : ℕ × Bool). r.0) there
 
 -- -- symbols, one after the other
 

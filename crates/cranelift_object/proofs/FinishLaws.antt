@@ -1,40 +1,83 @@
--- Why a module can't be finished, function by function.
-use Rattle.std.proofs.Common.{◌≡◌, ℕ, ◌+◌, ◌<◌, ◌≤◌, ◌++◌, ◌∷◌, List, [], length, map, drop, Option, Some, None, refl, ap, sym, ◌∙◌}
+-- Why a module can't be finished, one after the other.
+use Rattle.std.proofs.Common.{◌≡◌, ℕ, zero, suc, ◌+◌, ◌<◌, ◌≤◌, ◌++◌, ◌∷◌, List, [], length, map, drop, get_or, Option, Some, None, refl, ap, sym, ◌∙◌}
 use Rattle.std.specs.Prelude.{slice_get, option_and_then, flat_map}
 use Rattle.std.specs.Option.{option_or}
 use Rattle.std.specs.List.{All, enumerate_from}
-use Rattle.std.proofs.lemmas.List.{append-nil, drop_all}
-use Rattle.std.proofs.lemmas.List.Elements.{All-head, All-tail}
+use Rattle.std.proofs.lemmas.List.{drop_all, map-append}
+use Rattle.std.proofs.lemmas.List.Elements.{All-nil, All-cons, All-head, All-tail}
 use Rattle.std.proofs.lemmas.Option.{get_or_from_slice_get}
 use Rattle.cranelift_object.proofs.FirstCause.{drop_step, row_at}
 use Rattle.cranelift_module.specs.declared.reloc.ModuleReloc.{ModuleReloc}
 use Rattle.cranelift_module.specs.Definitions.{Definition}
+use Rattle.cranelift_module.specs.LinkState.{LinkState}
 use Rattle.cranelift_module.specs.Refusal.{Refusal, first_cause}
-use Rattle.cranelift_object.specs.Opened.{OpenModule}
-use Rattle.cranelift_object.specs.Kept.{IsModule, IsBody, Marks}
-use Rattle.cranelift_object.specs.EndCause.{end_cause, missing_function, missing_data, target_cause}
-
-no_relocs : (count : ℕ) (ds : List Definition) → All (IsBody count) ds → flat_map (λ (d : Definition). d.relocs) ds ≡ []
-no_relocs count [] h = refl
-no_relocs count (d ∷ ds) h = let body : IsBody count d = All-head (IsBody count) d ds h in rw (body.is, no_relocs count ds (All-tail (IsBody count) d ds h)) refl
+use Rattle.cranelift_module.specs.Texts.{GoesToUser}
+use Rattle.cranelift_object.specs.EndCause.{end_cause, missing_function, missing_data, target_cause, first_missing_function, first_missing_data, first_bad_reference, first_bad_target, IsDeclaredTarget}
 
 first_of_both : (xs ys : List (Option Refusal)) → first_cause (xs ++ ys) ≡ option_or (first_cause xs) (first_cause ys)
 first_of_both [] ys = refl
 first_of_both (None ∷ xs) ys = first_of_both xs ys
 first_of_both (Some r ∷ xs) ys = refl
 
-end_empty : {A : Type 0} (xs ys zs : List A) → zs ≡ [] → xs ++ ys ++ zs ≡ xs ++ ys
-end_empty xs ys zs e = rw (e, append-nil) refl
+causes_of_three : (a b c : Option Refusal) → option_or (option_or a b) c ≡ option_or a (option_or b c)
+causes_of_three None b c = refl
+causes_of_three (Some x) b c = refl
 
--- functions and then data objects can want a definition
-pub end_plain : (o : OpenModule) (marks : Marks) → IsModule o marks
-    → end_cause o.state ≡ option_or (first_cause (map (missing_function o.state) (enumerate_from 0 o.state.functions))) (first_cause (map (missing_data o.state) (enumerate_from 0 o.state.objects)))
+-- a function, then a data object, can want a definition, and then a relocation a target
+pub end_parts : (s : LinkState) → end_cause s ≡ option_or (first_missing_function s) (option_or (first_missing_data s) (first_bad_reference s))
 unfolding end_cause
-end_plain o marks h =
-    ap first_cause
-    (end_empty (map (missing_function o.state) (enumerate_from 0 o.state.functions)) (map (missing_data o.state) (enumerate_from 0 o.state.objects)) (map (λ (r : ModuleReloc). target_cause o.state r.name) (flat_map (λ (d : Definition). d.relocs) o.state.definitions))
-    (ap (map (λ (r : ModuleReloc). target_cause o.state r.name)) (no_relocs (length o.state.functions) o.state.definitions h.bodies)))
-    ∙ first_of_both (map (missing_function o.state) (enumerate_from 0 o.state.functions)) (map (missing_data o.state) (enumerate_from 0 o.state.objects))
+end_parts s =
+    let functions : List (Option Refusal) = map (missing_function s) (enumerate_from 0 s.functions) in
+    let references : List (Option Refusal) = map (λ (r : ModuleReloc). target_cause s r.name) (flat_map (λ (d : Definition). d.relocs) s.definitions) in
+    let objects : List (Option Refusal) = map (missing_data s) (enumerate_from 0 s.objects) in
+    first_of_both (functions ++ objects) references ∙ ap (λ (cause : Option Refusal). option_or cause (first_cause references)) (first_of_both functions objects)
+    ∙ causes_of_three (first_missing_function s) (first_missing_data s) (first_bad_reference s)
+
+second_none : (a b : Option Refusal) → option_or a b ≡ None → b ≡ None
+second_none None b h = h
+second_none (Some x) b h = absurd (cc)
+
+first_none : (a b : Option Refusal) → option_or a b ≡ None → a ≡ None
+first_none None b h = refl
+first_none (Some x) b h = absurd (cc)
+
+-- of two causes neither holds
+pub causes_none : (a b : Option Refusal) → option_or a b ≡ None → (a ≡ None) × (b ≡ None)
+causes_none a b h = (first_none a b h, second_none a b h)
+
+-- at the end no relocation wants a target
+pub end_targets : (s : LinkState) → end_cause s ≡ None → first_bad_reference s ≡ None
+end_targets s h = second_none (first_missing_data s) (first_bad_reference s) (second_none (first_missing_function s) (option_or (first_missing_data s) (first_bad_reference s)) (sym (end_parts s) ∙ h))
+
+-- the relocations of one definition, and those of the others
+pub bad_both : (s : LinkState) (xs ys : List ModuleReloc) → first_bad_target s (xs ++ ys) ≡ option_or (first_bad_target s xs) (first_bad_target s ys)
+bad_both s xs ys = ap first_cause (map-append (λ (r : ModuleReloc). target_cause s r.name) xs ys) ∙ first_of_both (map (λ (r : ModuleReloc). target_cause s r.name) xs) (map (λ (r : ModuleReloc). target_cause s r.name) ys)
+
+pub references_step : (s : LinkState) (ds : List Definition) (i : ℕ) (d : Definition) → i < length ds → d ≡ get_or ds i d
+    → first_bad_target s (flat_map (λ (x : Definition). x.relocs) (drop i ds)) ≡ option_or (first_bad_target s d.relocs) (first_bad_target s (flat_map (λ (x : Definition). x.relocs) (drop (i + 1) ds)))
+references_step s ds i d below at =
+    ap (λ (rest : List Definition). first_bad_target s (flat_map (λ (x : Definition). x.relocs) rest)) (drop_step ds i d below at) ∙ bad_both s d.relocs (flat_map (λ (x : Definition). x.relocs) (drop (i + 1) ds))
+
+pub references_end : (s : LinkState) (ds : List Definition) (i : ℕ) → length ds ≤ i → first_bad_target s (flat_map (λ (x : Definition). x.relocs) (drop i ds)) ≡ None
+references_end s ds i h = rw drop_all refl
+
+pub declared_all : (s : LinkState) (rs : List ModuleReloc) → All GoesToUser rs → first_bad_target s rs ≡ None → All (IsDeclaredTarget s) rs
+declared_all s [] all h = All-nil (IsDeclaredTarget s)
+declared_all s (r ∷ rs) all h =
+    All-cons (IsDeclaredTarget s) r rs (All-head GoesToUser r rs all, first_none (target_cause s r.name) (first_bad_target s rs) h)
+    (declared_all s rs (All-tail GoesToUser r rs all) (second_none (target_cause s r.name) (first_bad_target s rs) h))
+
+good_targets : (s : LinkState) (ds : List Definition) (j : ℕ) (d : Definition) → slice_get ds j ≡ Some d → first_bad_target s (flat_map (λ (x : Definition). x.relocs) ds) ≡ None → first_bad_target s d.relocs ≡ None
+good_targets s [] j d at h = absurd (cc)
+good_targets s (e ∷ ds) zero d at h =
+    let same : e ≡ d = cc in
+    ap (λ (x : Definition). first_bad_target s x.relocs) (sym same) ∙ first_none (first_bad_target s e.relocs) (first_bad_target s (flat_map (λ (x : Definition). x.relocs) ds)) (sym (bad_both s e.relocs (flat_map (λ (x : Definition). x.relocs) ds)) ∙ h)
+good_targets s (e ∷ ds) (suc j) d at h =
+    good_targets s ds j d at (second_none (first_bad_target s e.relocs) (first_bad_target s (flat_map (λ (x : Definition). x.relocs) ds)) (sym (bad_both s e.relocs (flat_map (λ (x : Definition). x.relocs) ds)) ∙ h))
+
+-- where no reference is bad, those of a definition are declared
+pub declared_targets : (s : LinkState) (j : ℕ) (d : Definition) → All GoesToUser d.relocs → slice_get s.definitions j ≡ Some d → first_bad_reference s ≡ None → All (IsDeclaredTarget s) d.relocs
+declared_targets s j d all at h = declared_all s d.relocs all (good_targets s s.definitions j d at h)
 
 -- the cause of the row at a place, and of those behind it
 pub missing_step : {A : Type 0} (missing : ℕ × A → Option Refusal) (rows : List A) (i : ℕ) → i < length rows

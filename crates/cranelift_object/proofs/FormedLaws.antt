@@ -1,50 +1,57 @@
 -- The object of a module can be written.
-use Rattle.std.proofs.Common.{◌≡◌, ℕ, zero, suc, ◌+◌, ◌%◌, ◌/◌, ◌==◌, ◌||◌, ◌<◌, ◌≤◌, ◌++◌, ◌∷◌, List, [], Bool, true, false, cond, length, map, Option, Some, None, refl, ap, sym, ◌∙◌, subst, arith, inl, inr, codes}
+use Rattle.std.proofs.Common.{◌≡◌, ℕ, zero, suc, ◌+◌, ◌%◌, ◌/◌, ◌==◌, ◌||◌, ◌&&◌, not, ◌<◌, ◌≤◌, ◌++◌, ◌∷◌, List, [], Bool, true, false, cond, length, map, Option, Some, None, refl, ap, sym, ◌∙◌, subst, arith, inl, inr, codes}
+use Rattle.std.proofs.lemmas.Bool.{ltb-false}
 use Rattle.std.proofs.lemmas.Bool.Decides.{eqb_tells}
-use Rattle.std.proofs.lemmas.List.{append-nil, map-append, length-map}
-use Rattle.std.proofs.lemmas.List.Elements.{All-nil, All-cons, All-push, All-weaker, All-map, All-filter, All-head, All-tail, filter-append}
-use Rattle.std.proofs.lemmas.List.Sums.{sum_by_push}
+use Rattle.std.proofs.lemmas.List.{length-map}
+use Rattle.std.proofs.lemmas.List.Elements.{All-nil, All-cons, All-weaker, All-map, All-head, All-tail}
 use Rattle.std.proofs.lemmas.Option.{slice_get-map, slice_get_within}
-use Rattle.std.specs.Prelude.{slice_get, option_map, unwrap_or, sum_by, nat_lt, find}
-use Rattle.std.specs.List.{All, list_any, position_from, filter}
+use Rattle.std.specs.Prelude.{slice_get, option_map, unwrap_or, is_some, nat_lt, find, flat_map}
+use Rattle.std.specs.Option.{option_or}
+use Rattle.std.specs.List.{All, list_any, position_from}
 use Rattle.std.specs.Fmt.{digits, digits_onto, digit_glyph}
-use Rattle.std.specs.Int.{next_multiple_of}
-use Rattle.cranelift_module.specs.Refusal.{function_name, data_name, zero_byte}
-use Rattle.cranelift_module.specs.Refusal.{backend}
-use Rattle.cranelift_module.specs.declared.error.BackendCause.TheVariants.{NulByte}
-use Rattle.cranelift_module.specs.Definitions.{Definition}
+use Rattle.ir_core.specs.Target.{Target}
+use Rattle.cranelift_module.specs.Kind.{elf_number, field_width}
+use Rattle.cranelift_module.specs.declared.error.BackendCause.TheVariants.{NulByte, UnsupportedReloc, BadReloc}
+use Rattle.cranelift_module.specs.declared.reloc.ModuleReloc.{ModuleReloc}
+use Rattle.cranelift_module.specs.declared.reloc.ModuleRelocTarget.{ModuleRelocTarget}
+use Rattle.cranelift_module.specs.declared.reloc.ModuleRelocTarget.TheVariants.{User, LibCall, KnownSymbol, FunctionOffset}
+use Rattle.cranelift_module.specs.Call.{Contents, bytes, zeros}
+use Rattle.cranelift_module.specs.Texts.{IsUser, user_text}
+use Rattle.cranelift_module.specs.Refusal.{Refusal, function_name, data_name, zero_byte, backend, undeclared, refuse_if, has_kind, is_outside, bytes_in, reloc_cause, bad_reloc_from, is_same_identifier}
+use Rattle.cranelift_module.specs.Definitions.{Definition, size_of}
 use Rattle.cranelift_module.specs.LinkState.{LinkState}
-use Rattle.ir_core.specs.Moments.{Moment, moments}
-use Rattle.ir_core.proofs.MomentLaws.{moments-end, by_end}
-use Rattle.object_core.specs.Places.{end_of}
-use Rattle.cranelift_object.specs.Settings.{Settings}
-use Rattle.cranelift_object.specs.Placing.{Placed, placed_at, sections_used, room_of, align_of, extent_of, number_of, standing_in}
-use Rattle.cranelift_object.specs.Partial.{placed_of, partial}
-use Rattle.cranelift_object.proofs.SectionLaws.{end_of-end}
-use Rattle.cranelift_object.proofs.ClassLaws.{placed_of-end, placed_below, placed_definitions}
-use Rattle.cranelift_object.proofs.DefineLaws.{All-front, All-last}
 use Rattle.cranelift_module.specs.Rows.{FunctionRow, DataRow}
-use Rattle.object_core.specs.declared.symbol.Symbol.{Symbol}
-use Rattle.object_core.specs.declared.relocation.Relocation.{Relocation}
-use Rattle.object_core.specs.declared.kinds.SymbolKind.TheVariants as kind
-use Rattle.object_core.specs.declared.kinds.StandardSection.TheVariants.{Text}
-use Rattle.object_core.specs.Object.{SectionData, ObjectData}
-use Rattle.object_core.specs.Appending.{file_symbol}
 use Rattle.cranelift_module.specs.declared.linkage.Linkage.{Linkage}
 use Rattle.cranelift_module.specs.declared.identifiers.FuncOrDataId.{FuncOrDataId}
 use Rattle.cranelift_module.specs.declared.identifiers.FuncOrDataId.TheVariants.{Func, Data}
-use Rattle.cranelift_module.specs.Refusal.{is_same_identifier}
+use Rattle.object_core.specs.declared.symbol.Symbol.{Symbol}
+use Rattle.object_core.specs.declared.relocation.Relocation.{Relocation}
+use Rattle.object_core.specs.declared.kinds.SymbolKind.TheVariants as kind
+use Rattle.object_core.specs.declared.kinds.StandardSection.{StandardSection}
+use Rattle.object_core.specs.declared.kinds.StandardSection.TheVariants.{Text, Data as DataSection, ReadOnlyData, ReadOnlyDataWithRel, UninitializedData, Tls, UninitializedTls}
+use Rattle.object_core.specs.Object.{SectionData, ObjectData}
+use Rattle.object_core.specs.Places.{end_of, joined}
+use Rattle.object_core.specs.Appending.{file_symbol}
+use Rattle.object_core.specs.WellFormed.{IsFormedElf, IsFormedSymbol, IsFormedRelocation, has_zero_byte, is_file}
+use Rattle.cranelift_object.specs.Settings.{Settings}
 use Rattle.cranelift_object.specs.Opened.{OpenModule}
-use Rattle.cranelift_object.specs.SectionClass.{Class, section_class, standard_class}
-use Rattle.cranelift_object.specs.Linked.{defined_at, named_symbol, function_symbol, data_symbol, identifier_symbol, section_with, members, relocations_of, object_of}
+use Rattle.cranelift_object.specs.Kept.{IsModule, IsBody, IsDeclared, IsName, Marks}
+use Rattle.cranelift_object.specs.SectionClass.{Class, section_class, class_by_text, standard_class, standard_section, has_own_section, is_counted, are_counted}
+use Rattle.cranelift_object.specs.Placing.{Placed, sections_used, room_of, extent_of, standing_in}
+use Rattle.cranelift_object.specs.Partial.{placed_of, partial, sections_from}
+use Rattle.cranelift_object.specs.Targets.{target_of, identifier}
+use Rattle.cranelift_object.specs.EndCause.{target_cause, is_declared, IsDeclaredTarget, first_bad_target, first_bad_reference}
+use Rattle.cranelift_object.specs.Linked.{defined_at, named_symbol, function_symbol, data_symbol, identifier_symbol, section_with, members, object_of, object_relocation, row_of, piece_of, is_unstored_class}
 use Rattle.cranelift_object.specs.Product.{IsWritable}
-use Rattle.cranelift_object.specs.Partial.{sections_from}
-use Rattle.cranelift_object.proofs.ObjectLaws.{All-slice_get, partial_whole, IsPlain}
-use Rattle.cranelift_object.proofs.DefineLaws.{created_function, created_data, used_all, body_plain}
 use Rattle.cranelift_object.proofs.FirstCause.{row_at}
+use Rattle.cranelift_object.proofs.SectionLaws.{joined_length, relocations_at}
+use Rattle.cranelift_object.proofs.ClassLaws.{equal, placed_below, placed_definitions, placed_class, members_extents, used_all, All-slice_get, IsShareable, shareable}
+use Rattle.cranelift_object.proofs.PlaceLaws.{places_within, ends_within}
+use Rattle.cranelift_object.proofs.SymbolLaws.{IsPlain}
+use Rattle.cranelift_object.proofs.ObjectLaws.{partial_whole}
 use Rattle.cranelift_object.proofs.OpenLaws.{sections_length}
-use Rattle.object_core.specs.WellFormed.{IsFormedElf, IsFormedSymbol, IsFormedRelocation, has_zero_byte}
-use Rattle.cranelift_object.specs.Kept.{IsModule, IsBody, IsName, Marks}
+use Rattle.cranelift_object.proofs.FinishLaws.{causes_none, bad_both, declared_all}
+use Rattle.cranelift_object.proofs.DefineLaws.{created_function, created_data, created_at, symbol_place, bodies_plain, class_counted, room_elf, good_least}
 
 -- -- names
 
@@ -99,65 +106,6 @@ function_no_zero row id h = name_no_zero row.name (codes ".Lfn" ++ digits 16 fal
 -- nor has that of a data object
 pub data_no_zero : (row : DataRow) (id : ℕ) → IsName row.name → has_zero_byte (data_name row id) ≡ false
 data_no_zero row id h = name_no_zero row.name (codes ".Ldata" ++ digits 16 false id) (digits_no_zero id) h
-
--- -- places of definitions
-
-align_over : (x y : ℕ) → 0 < y → next_multiple_of x y ≤ x + y
-align_over x y h = omega arith
-
-abbrev asked : LinkState → Definition → ℕ
-asked s d = room_of d + align_of s d
-
-align_positive : (s : LinkState) (d : Definition) → 1 ≤ d.align → 0 < align_of s d
-align_positive s d h = omega arith
-
-kept_or_not : (settings : Settings) (s : LinkState) (k : ℕ) (ds : List Definition) (d : Definition) (b : Bool) → 1 ≤ d.align → end_of (map (extent_of s) (standing_in settings s k ds)) ≤ sum_by (asked s) ds
-    → end_of (map (extent_of s) (standing_in settings s k ds ++ map (λ (m : Moment Definition). m.here) (cond b (record { before = ds; here = d } ∷ []) []))) ≤ sum_by (asked s) ds + asked s d
-kept_or_not settings s k ds d true least h =
-    let over = align_over (end_of (map (extent_of s) (standing_in settings s k ds))) (align_of s d) (align_positive s d least) in
-    rw (map-append, end_of-end) (omega (arith, h, over))
-kept_or_not settings s k ds d false least h = rw append-nil (omega (arith, h))
-
-standing_none : (settings : Settings) (s : LinkState) (k : ℕ) → end_of (map (extent_of s) (standing_in settings s k [])) ≤ 0
-unfolding standing_in moments end_of
-standing_none settings s k = omega arith
-
-standing-end : (settings : Settings) (s : LinkState) (k : ℕ) (ds : List Definition) (d : Definition)
-    → standing_in settings s k (ds ++ d ∷ []) ≡ standing_in settings s k ds ++ map (λ (m : Moment Definition). m.here) (cond (number_of settings s (record { before = ds; here = d }) == k) (record { before = ds; here = d } ∷ []) [])
-unfolding standing_in
-standing-end settings s k ds d =
-    let test : Moment Definition → Bool = λ m. number_of settings s m == k in
-    let here : Moment Definition → Definition = λ m. m.here in
-    ap (λ (ms : List (Moment Definition)). map here (filter test ms)) (moments-end ds d) ∙ ap (map here) (filter-append test (moments ds) (record { before = ds; here = d } ∷ [])) ∙ map-append here (filter test (moments ds)) (filter test (record { before = ds; here = d } ∷ []))
-
-standing_more : (settings : Settings) (s : LinkState) (k : ℕ) (ds : List Definition) (d : Definition) → end_of (map (extent_of s) (standing_in settings s k ds)) ≤ sum_by (asked s) ds → 1 ≤ d.align → end_of (map (extent_of s) (standing_in settings s k (ds ++ d ∷ []))) ≤ sum_by (asked s) (ds ++ d ∷ [])
-standing_more settings s k ds d h least =
-    rw (standing-end settings s k ds d, sum_by_push (asked s) ds d) (kept_or_not settings s k ds d (number_of settings s (record { before = ds; here = d }) == k) least h)
-
--- the definitions of a section end within what all ask for
-standing_within : (settings : Settings) (s : LinkState) (k : ℕ) (ds : List Definition) → All (λ (d : Definition). 1 ≤ d.align) ds → end_of (map (extent_of s) (standing_in settings s k ds)) ≤ sum_by (asked s) ds
-standing_within settings s k = by_end (λ ds. All (λ (d : Definition). 1 ≤ d.align) ds → end_of (map (extent_of s) (standing_in settings s k ds)) ≤ sum_by (asked s) ds) (λ all. standing_none settings s k) (λ ds d h all. standing_more settings s k ds d (h (All-front (λ (x : Definition). 1 ≤ x.align) ds d all)) (All-last (λ (x : Definition). 1 ≤ x.align) ds d all))
-
-places_none : (settings : Settings) (s : LinkState) → All (λ (p : Placed). p.offset ≤ 0) (placed_of settings s [])
-unfolding moments
-places_none settings s = All-nil (λ (p : Placed). p.offset ≤ 0)
-
-places_more : (settings : Settings) (s : LinkState) (ds : List Definition) (d : Definition) → All (λ (p : Placed). p.offset ≤ sum_by (asked s) ds) (placed_of settings s ds) → All (λ (x : Definition). 1 ≤ x.align) (ds ++ d ∷ [])
-    → All (λ (p : Placed). p.offset ≤ sum_by (asked s) (ds ++ d ∷ [])) (placed_of settings s (ds ++ d ∷ []))
-places_more settings s ds d h all =
-    let m : Moment Definition = record { before = ds; here = d } in
-    let k : ℕ = number_of settings s m in
-    let least = All-last (λ (x : Definition). 1 ≤ x.align) ds d all in
-    let end = standing_within settings s k ds (All-front (λ (x : Definition). 1 ≤ x.align) ds d all) in
-    let over = align_over (end_of (map (extent_of s) (standing_in settings s k ds))) (align_of s d) (align_positive s d least) in
-    let pushed = sum_by_push (asked s) ds d in
-    let here : (placed_at settings s m).offset ≤ sum_by (asked s) (ds ++ d ∷ []) = omega (arith, end, over, pushed) in
-    let before = All-weaker (λ (p : Placed). p.offset ≤ sum_by (asked s) ds) (λ (p : Placed). p.offset ≤ sum_by (asked s) (ds ++ d ∷ [])) (λ p l. omega (arith, l, pushed)) (placed_of settings s ds) h in
-    rw (placed_of-end settings s ds d) (All-push (λ (p : Placed). p.offset ≤ sum_by (asked s) (ds ++ d ∷ [])) (placed_of settings s ds) (placed_at settings s m) before here)
-
--- each definition stands within what all ask for
-places_within : (settings : Settings) (s : LinkState) (ds : List Definition) → All (λ (d : Definition). 1 ≤ d.align) ds → All (λ (p : Placed). p.offset ≤ sum_by (asked s) ds) (placed_of settings s ds)
-places_within settings s = by_end (λ ds. All (λ (d : Definition). 1 ≤ d.align) ds → All (λ (p : Placed). p.offset ≤ sum_by (asked s) ds) (placed_of settings s ds)) (λ all. places_none settings s) (λ ds d h all. places_more settings s ds d (h (All-front (λ (x : Definition). 1 ≤ x.align) ds d all)) all)
 
 -- -- symbols
 
@@ -223,12 +171,29 @@ formed_at o marks object ps (suc i) t h within at = formed_identifier o marks ob
 
 -- -- sections
 
-text_name_from : (own : Bool) → has_zero_byte (standard_class Text own false).name ≡ false
-text_name_from true = refl
-text_name_from false = refl
+standard_free : (standard : StandardSection) (own used : Bool) → has_zero_byte (standard_class standard own used).name ≡ false
+standard_free Text true used = refl
+standard_free Text false used = refl
+standard_free DataSection true used = refl
+standard_free DataSection false used = refl
+standard_free ReadOnlyData true used = refl
+standard_free ReadOnlyData false used = refl
+standard_free ReadOnlyDataWithRel true used = refl
+standard_free ReadOnlyDataWithRel false used = refl
+standard_free UninitializedData true used = refl
+standard_free UninitializedData false used = refl
+standard_free Tls true used = refl
+standard_free Tls false used = refl
+standard_free UninitializedTls true used = refl
+standard_free UninitializedTls false used = refl
 
-text_name : (settings : Settings) (s : LinkState) (count : ℕ) (d : Definition) → IsBody count d → has_zero_byte (section_class settings s d).name ≡ false
-text_name settings s count d body = ap (λ (x : Definition). has_zero_byte (section_class settings s x).name) body.is ∙ text_name_from settings.function_sections
+text_free : (settings : Settings) (s : LinkState) (d : Definition) (text : Option (List ℕ)) → zero_byte (unwrap_or text []) ≡ None → has_zero_byte (class_by_text settings s d text).name ≡ false
+text_free settings s d None h = standard_free (standard_section s d d.identifier) (has_own_section settings d d.identifier) d.used
+text_free settings s d (Some text) h = no_zero text h
+
+-- the name of a section has no zero byte
+class_free : (settings : Settings) (s : LinkState) (target : Target) (functions objects : ℕ) (d : Definition) → IsBody target functions objects d → has_zero_byte (section_class settings s d).name ≡ false
+class_free settings s target functions objects d body = text_free settings s d d.section body.text
 
 -- a section is that of a class
 class_of : (Q : Class → Type 0) (settings : Settings) (s : LinkState) (ps : List Placed) (classes : List Class) (i k : ℕ) (x : SectionData) → All Q classes → slice_get (sections_from settings s i classes ps) k ≡ Some x → (c : Class) × (j : ℕ) × Q c × (x ≡ section_with settings s c (members ps j))
@@ -236,14 +201,14 @@ class_of Q settings s ps [] i k x all at = absurd (cc)
 class_of Q settings s ps (c ∷ classes) i zero x all at = let same : x ≡ section_with settings s c (members ps i) = cc in (c, i, All-head Q c classes all, same)
 class_of Q settings s ps (c ∷ classes) i (suc k) x all at = class_of Q settings s ps classes (i + 1) k x (All-tail Q c classes all) at
 
-no_relocations : (settings : Settings) (s : LinkState) (ps : List Placed) → All (λ (p : Placed). p.definition.relocs ≡ []) ps → relocations_of settings s ps ≡ []
-no_relocations settings s [] all = refl
-no_relocations settings s (p ∷ ps) all =
-    rw (All-head (λ (q : Placed). q.definition.relocs ≡ []) p ps all, no_relocations settings s ps (All-tail (λ (q : Placed). q.definition.relocs ≡ []) p ps all)) refl
-
-All-unmap : {A B : Type 0} (P : B → Type 0) (f : A → B) (xs : List A) → All P (map f xs) → All (λ x. P (f x)) xs
-All-unmap P f [] all = All-nil (λ x. P (f x))
-All-unmap P f (x ∷ xs) all = All-cons (λ y. P (f y)) x xs (All-head P (f x) (map f xs) all) (All-unmap P f xs (All-tail P (f x) (map f xs) all))
+-- the class of the section of this number is that section's
+class_at_of : (settings : Settings) (s : LinkState) (ps : List Placed) (classes : List Class) (i j k : ℕ) (x : SectionData) → j ≡ i + k → slice_get (sections_from settings s i classes ps) k ≡ Some x → (c : Class) × (slice_get classes k ≡ Some c) × (x ≡ section_with settings s c (members ps j))
+class_at_of settings s ps [] i j k x e at = absurd (cc)
+class_at_of settings s ps (c ∷ classes) i j zero x e at =
+    let here : j ≡ i = omega arith in
+    let same : x ≡ section_with settings s c (members ps i) = cc in
+    (c, refl, same ∙ ap (λ (n : ℕ). section_with settings s c (members ps n)) (sym here))
+class_at_of settings s ps (c ∷ classes) i j (suc k) x e at = class_at_of settings s ps classes (i + 1) j k x (omega arith) at
 
 -- -- the object
 
@@ -253,8 +218,8 @@ both_within o (p ∷ ps) a b =
     All-cons (IsWithin o) p ps (All-head (λ (q : Placed). q.section < length o.sections) p ps a, All-head (λ (q : Placed). q.offset ≤ o.content_sum) p ps b)
     (both_within o ps (All-tail (λ (q : Placed). q.section < length o.sections) p ps a) (All-tail (λ (q : Placed). q.offset ≤ o.content_sum) p ps b))
 
-body_least : (count : ℕ) (d : Definition) → IsBody count d → 1 ≤ d.align
-body_least count d body = rw body.is (omega arith)
+all_least : (o : OpenModule) (marks : Marks) → IsModule o marks → All (λ (d : Definition). 1 ≤ d.align) o.state.definitions
+all_least o marks h = All-weaker (IsBody o.state.target (length o.state.functions) (length o.state.objects)) (λ (d : Definition). 1 ≤ d.align) (λ d body. good_least d.align body.aligned) o.state.definitions h.bodies
 
 -- each definition lies in a section of the object
 pub placed_within : (o : OpenModule) (marks : Marks) → IsModule o marks → All (IsWithin (partial o.settings o.state o.state.definitions)) (placed_of o.settings o.state o.state.definitions)
@@ -264,7 +229,7 @@ placed_within o marks h =
     let ps : List Placed = placed_of o.settings o.state ds in
     let used : List Class = sections_used (map (section_class o.settings o.state) ds) in
     let count = sections_length o.settings o.state 0 used ps in
-    let least = All-weaker (IsBody (length o.state.functions)) (λ (d : Definition). 1 ≤ d.align) (λ d body. body_least (length o.state.functions) d body) ds h.bodies in
+    let least = all_least o marks h in
     let sections = All-weaker (λ (p : Placed). p.section < length used) (λ (p : Placed). p.section < length (sections_from o.settings o.state 0 used ps)) (λ p l. omega (arith, l, count)) ps (placed_below o.settings o.state ds) in
     both_within (partial o.settings o.state ds) ps sections (places_within o.settings o.state ds least)
 
@@ -272,43 +237,227 @@ formed_symbols : (o : OpenModule) (marks : Marks) → IsModule o marks → (k : 
 unfolding partial
 formed_symbols o marks h k t at = formed_at o marks (partial o.settings o.state o.state.definitions) (placed_of o.settings o.state o.state.definitions) k t h (placed_within o marks h) at
 
--- a section of the object is that of the class of a function
-section_is_text : (o : OpenModule) (marks : Marks) → IsModule o marks → (k : ℕ) (x : SectionData) → slice_get (partial o.settings o.state o.state.definitions).sections k ≡ Some x
+-- a section of the object is that of the class of a definition
+section_named : (o : OpenModule) (marks : Marks) → IsModule o marks → (k : ℕ) (x : SectionData) → slice_get (partial o.settings o.state o.state.definitions).sections k ≡ Some x
     → (c : Class) × (j : ℕ) × (has_zero_byte c.name ≡ false) × (x ≡ section_with o.settings o.state c (members (placed_of o.settings o.state o.state.definitions) j))
 unfolding partial
-section_is_text o marks h k x at =
+section_named o marks h k x at =
     let Q : Class → Type 0 = λ c. has_zero_byte c.name ≡ false in
     let class : Definition → Class = section_class o.settings o.state in
     let ds : List Definition = o.state.definitions in
-    let n : ℕ = length o.state.functions in
-    let all = used_all Q (map class ds) (All-map Q class ds (All-weaker (IsBody n) (λ d. Q (class d)) (λ d body. text_name o.settings o.state n d body) ds h.bodies)) in
+    let bodies : Definition → Type 0 = IsBody o.state.target (length o.state.functions) (length o.state.objects) in
+    let all = used_all Q (map class ds) (All-map Q class ds (All-weaker bodies (λ d. Q (class d)) (λ d body. class_free o.settings o.state o.state.target (length o.state.functions) (length o.state.objects) d body) ds h.bodies)) in
     class_of Q o.settings o.state (placed_of o.settings o.state ds) (sections_used (map class ds)) 0 k x all at
 
 formed_names : (o : OpenModule) (marks : Marks) → IsModule o marks → (k : ℕ) (x : SectionData) → slice_get (partial o.settings o.state o.state.definitions).sections k ≡ Some x → has_zero_byte x.name ≡ false
-formed_names o marks h k x at = let text = section_is_text o marks h k x at in ap (λ (y : SectionData). has_zero_byte y.name) text.3 ∙ text.2
+formed_names o marks h k x at = let named = section_named o marks h k x at in ap (λ (y : SectionData). has_zero_byte y.name) named.3 ∙ named.2
 
-formed_relocations : (o : OpenModule) (marks : Marks) → IsModule o marks → (k : ℕ) (x : SectionData) → slice_get (partial o.settings o.state o.state.definitions).sections k ≡ Some x → (m : ℕ) (r : Relocation) → slice_get x.relocations m ≡ Some r
-    → IsFormedRelocation (partial o.settings o.state o.state.definitions) x r
-formed_relocations o marks h k x at m r found =
-    let text = section_is_text o marks h k x at in
+-- -- relocations
+
+-- a relocation of a kind that the target has, with its field within so many bytes
+abbrev IsGood : Target → Option ℕ → ModuleReloc → Type 0
+IsGood target size r = (has_kind target r.kind ≡ true) × (is_outside size r ≡ false)
+
+not_refused : (test : Bool) (r : Refusal) → refuse_if test r ≡ None → test ≡ false
+not_refused true r h = absurd (cc)
+not_refused false r h = refl
+
+was_true : (b : Bool) → not b ≡ false → b ≡ true
+was_true true h = refl
+was_true false h = absurd (cc)
+
+good_one : (target : Target) (size : Option ℕ) (before : List ModuleReloc) (r : ModuleReloc) → reloc_cause target size before r ≡ None → IsGood target size r
+good_one target size before r h =
+    let kinds : Option Refusal = refuse_if (not (has_kind target r.kind)) (backend (UnsupportedReloc (length before) r.kind)) in
+    let fields : Option Refusal = refuse_if (is_outside size r) (backend (BadReloc (length before) r.offset)) in
+    let parts = causes_none kinds (option_or fields None) h in (
+      was_true (has_kind target r.kind) (not_refused (not (has_kind target r.kind)) (backend (UnsupportedReloc (length before) r.kind)) parts.0),
+      not_refused (is_outside size r) (backend (BadReloc (length before) r.offset)) (causes_none fields None parts.1).0,
+    )
+
+-- the relocations of which none is refused
+good_relocs : (target : Target) (size : Option ℕ) (before rs : List ModuleReloc) → bad_reloc_from target size before rs ≡ None → All (IsGood target size) rs
+good_relocs target size before [] h = All-nil (IsGood target size)
+good_relocs target size before (r ∷ rs) h =
+    let parts = causes_none (reloc_cause target size before r) (bad_reloc_from target size (before ++ r ∷ []) rs) h in
+    All-cons (IsGood target size) r rs (good_one target size before r parts.0) (good_relocs target size (before ++ r ∷ []) rs parts.1)
+
+-- a field that isn't outside lies in bytes
+field_bytes : (c : Contents) (section : Option (List ℕ)) (r : ModuleReloc) → is_outside (bytes_in c) r ≡ false → (are_counted c section ≡ false) × (r.offset + field_width r.kind ≤ size_of c)
+field_bytes (bytes xs) section r h = (refl, ltb-false (length xs) (r.offset + field_width r.kind) h)
+field_bytes (zeros n) section r h = absurd (cc)
+
+some_is : (n : Option ℕ) → is_some n ≡ true → n ≡ Some (unwrap_or n 0)
+some_is None h = absurd (cc)
+some_is (Some n) h = refl
+
+cond_kind : (tls : Bool) → is_file (cond tls kind.Tls kind.Data) ≡ false
+cond_kind true = refl
+cond_kind false = refl
+
+function_no_file : (ps : List Placed) (k : ℕ) (row : Option FunctionRow) → is_file (function_symbol ps k row).kind ≡ false
+function_no_file ps k None = refl
+function_no_file ps k (Some row) = refl
+
+data_no_file : (ps : List Placed) (k : ℕ) (row : Option DataRow) → is_file (data_symbol ps k row).kind ≡ false
+data_no_file ps k None = refl
+data_no_file ps k (Some row) = cond_kind row.tls
+
+identifier_no_file : (s : LinkState) (ps : List Placed) (id : FuncOrDataId) → is_file (identifier_symbol s ps id).kind ≡ false
+identifier_no_file s ps (Func k) = function_no_file ps k (slice_get s.functions k)
+identifier_no_file s ps (Data k) = data_no_file ps k (slice_get s.objects k)
+
+some_within : {A : Type 0} (xs : List A) (k : ℕ) (o : Option A) → slice_get xs k ≡ o → is_some o ≡ true → k < length xs
+some_within xs k None e h = absurd (cc)
+some_within xs k (Some x) e h = slice_get_within xs k x e
+
+-- a declared target is an identifier with a symbol
+user_declared : (settings : Settings) (s : LinkState) (namespace index : ℕ) (b c : Bool) → (namespace == 0) ≡ b → (namespace == 1) ≡ c → cond b (is_some (slice_get s.functions index)) (c && is_some (slice_get s.objects index)) ≡ true
+    → (id : FuncOrDataId) × (target_of settings s (User namespace index) ≡ identifier id) × IsDeclared (length s.functions) (length s.objects) id
+user_declared settings s namespace index true c e f h = (Func index, ap (λ (zero : Bool). identifier (cond zero (Func index) (Data index))) e, some_within s.functions index (slice_get s.functions index) refl h)
+user_declared settings s namespace index false true e f h = (Data index, ap (λ (zero : Bool). identifier (cond zero (Func index) (Data index))) e, some_within s.objects index (slice_get s.objects index) refl h)
+user_declared settings s namespace index false false e f h = absurd (cc)
+
+declared_target : (settings : Settings) (s : LinkState) (t : ModuleRelocTarget) → IsUser t → target_cause s t ≡ None → (id : FuncOrDataId) × (target_of settings s t ≡ identifier id) × IsDeclared (length s.functions) (length s.objects) id
+declared_target settings s (User namespace index) h none =
+    user_declared settings s namespace index (namespace == 0) (namespace == 1) refl refl (was_true (is_declared s namespace index) (not_refused (not (is_declared s namespace index)) (undeclared (user_text namespace index)) none))
+declared_target settings s (LibCall call) h none = absurd h
+declared_target settings s (KnownSymbol symbol) h none = absurd h
+declared_target settings s (FunctionOffset function offset) h none = absurd h
+
+-- the symbol of a declared target is one of the object, and no file
+formed_target : (o : OpenModule) (marks : Marks) (r : ModuleReloc) (offset : ℕ) → IsModule o marks → IsDeclaredTarget o.state r
+    → (t : Symbol) × (slice_get (partial o.settings o.state o.state.definitions).symbols (object_relocation o.settings o.state offset r).symbol ≡ Some t) × (is_file t.kind ≡ false)
+unfolding partial
+formed_target o marks r offset h declared =
+    let ps : List Placed = placed_of o.settings o.state o.state.definitions in
+    let target = declared_target o.settings o.state r.name declared.0 declared.1 in
+    let created = created_at o marks target.0 h target.2 in
+    let number : row_of o.settings o.state (target_of o.settings o.state r.name) ≡ suc created.0 = ap (row_of o.settings o.state) target.1 ∙ symbol_place o marks created.0 target.0 h created.1 in
+    let there = slice_get-map (identifier_symbol o.state ps) o.state.created created.0 ∙ ap (option_map (identifier_symbol o.state ps)) created.1 in
+    (identifier_symbol o.state ps target.0, ap (slice_get (file_symbol o.settings.file_name ∷ map (identifier_symbol o.state ps) o.state.created)) number ∙ there, identifier_no_file o.state ps target.0)
+
+-- a relocation of a definition that ends within its section
+formed_one_relocation : (o : OpenModule) (marks : Marks) (x : SectionData) (c : Class) (p : Placed) (r : ModuleReloc) → IsModule o marks → IsBody o.state.target (length o.state.functions) (length o.state.objects) p.definition → is_unstored_class o.state c ≡ is_counted p.definition
+    → (is_unstored_class o.state c ≡ false → p.offset + room_of o.state p.definition ≤ length x.contents) → IsGood o.state.target (bytes_in p.definition.contents) r → IsDeclaredTarget o.state r
+    → IsFormedRelocation (partial o.settings o.state o.state.definitions) x (object_relocation o.settings o.state p.offset r)
+unfolding partial
+formed_one_relocation o marks x c p r h body stored within good declared =
+    let field = field_bytes p.definition.contents p.definition.section r good.1 in
+    let room = room_elf o.state.target.triple.binary_format (size_of p.definition.contents) h.begun.format in
+    let inside = within (stored ∙ field.0) in
+    let number = some_is (elf_number o.state.target.triple.architecture r.kind) good.0 in
+    record { field = (r.kind, number, omega (arith, field.1, room, inside)); symbol = formed_target o marks r p.offset h declared }
+
+All-flat : {A B : Type 0} (P : B → Type 0) (f : A → List B) (xs : List A) → All (λ x. All P (f x)) xs → All P (flat_map f xs)
+All-flat P f [] all = All-nil P
+All-flat P f (x ∷ xs) all = All-join P (f x) (flat_map f xs) (All-head (λ y. All P (f y)) x xs all) (All-flat P f xs (All-tail (λ y. All P (f y)) x xs all)) where
+  All-join : {B : Type 0} (P : B → Type 0) (ys zs : List B) → All P ys → All P zs → All P (ys ++ zs)
+  All-join P [] zs a b = b
+  All-join P (y ∷ ys) zs a b = All-cons P y (ys ++ zs) (All-head P y ys a) (All-join P ys zs (All-tail P y ys a) b)
+
+All-both : {A : Type 0} (P Q : A → Type 0) (xs : List A) → All P xs → All Q xs → All (λ x. P x × Q x) xs
+All-both P Q [] a b = All-nil (λ x. P x × Q x)
+All-both P Q (x ∷ xs) a b = All-cons (λ y. P y × Q y) x xs (All-head P x xs a, All-head Q x xs b) (All-both P Q xs (All-tail P x xs a) (All-tail Q x xs b))
+
+All-unmap : {A B : Type 0} (P : B → Type 0) (f : A → B) (xs : List A) → All P (map f xs) → All (λ x. P (f x)) xs
+All-unmap P f [] all = All-nil (λ x. P (f x))
+All-unmap P f (x ∷ xs) all = All-cons (λ y. P (f y)) x xs (All-head P (f x) (map f xs) all) (All-unmap P f xs (All-tail P (f x) (map f xs) all))
+
+-- what holds of each of a section's definitions
+All-members : (P : Placed → Type 0) (ps : List Placed) (k : ℕ) → All (λ (p : Placed). p.section ≡ k → P p) ps → All P (members ps k)
+All-members P [] k all = All-nil P
+All-members P (p ∷ ps) k all = member_from P p ps k (p.section == k) refl (All-head (λ (q : Placed). q.section ≡ k → P q) p ps all) (All-members P ps k (All-tail (λ (q : Placed). q.section ≡ k → P q) p ps all)) where
+  member_from : (P : Placed → Type 0) (p : Placed) (ps : List Placed) (k : ℕ) (b : Bool) → (p.section == k) ≡ b → (p.section ≡ k → P p) → All P (members ps k) → All P (cond b (p ∷ members ps k) (members ps k))
+  member_from P p ps k true e here all = All-cons P p (members ps k) (here (equal p.section k e)) all
+  member_from P p ps k false e here all = all
+
+-- what is known of a placed definition
+pub record IsKnown (o : OpenModule) (k : ℕ) (p : Placed) : Type 0 where
+  pub body : IsBody o.state.target (length o.state.functions) (length o.state.objects) p.definition
+  pub targets : All (IsDeclaredTarget o.state) p.definition.relocs
+  pub class : slice_get (sections_used (map (section_class o.settings o.state) o.state.definitions)) p.section ≡ Some (section_class o.settings o.state p.definition)
+  pub ends : p.section ≡ k → p.offset + room_of o.state p.definition ≤ end_of (map (extent_of o.state) (standing_in o.settings o.state k o.state.definitions))
+
+known_all : (o : OpenModule) (k : ℕ) (ps : List Placed) → All (λ (p : Placed). IsBody o.state.target (length o.state.functions) (length o.state.objects) p.definition × All (IsDeclaredTarget o.state) p.definition.relocs) ps
+    → All (λ (p : Placed). slice_get (sections_used (map (section_class o.settings o.state) o.state.definitions)) p.section ≡ Some (section_class o.settings o.state p.definition)) ps
+    → All (λ (p : Placed). p.section ≡ k → p.offset + room_of o.state p.definition ≤ end_of (map (extent_of o.state) (standing_in o.settings o.state k o.state.definitions))) ps → All (IsKnown o k) ps
+known_all o k [] a b c = All-nil (IsKnown o k)
+known_all o k (p ∷ ps) a b c =
+    let A : Placed → Type 0 = λ p. IsBody o.state.target (length o.state.functions) (length o.state.objects) p.definition × All (IsDeclaredTarget o.state) p.definition.relocs in
+    let B : Placed → Type 0 = λ p. slice_get (sections_used (map (section_class o.settings o.state) o.state.definitions)) p.section ≡ Some (section_class o.settings o.state p.definition) in
+    let C : Placed → Type 0 = λ p. p.section ≡ k → p.offset + room_of o.state p.definition ≤ end_of (map (extent_of o.state) (standing_in o.settings o.state k o.state.definitions)) in
+    let here = All-head A p ps a in
+    All-cons (IsKnown o k) p ps (record { body = here.0; targets = here.1; class = All-head B p ps b; ends = All-head C p ps c }) (known_all o k ps (All-tail A p ps a) (All-tail B p ps b) (All-tail C p ps c))
+
+declared_each : (s : LinkState) (ds : List Definition) → All IsPlain ds → first_bad_target s (flat_map (λ (d : Definition). d.relocs) ds) ≡ None → All (λ (d : Definition). All (IsDeclaredTarget s) d.relocs) ds
+declared_each s [] all h = All-nil (λ (d : Definition). All (IsDeclaredTarget s) d.relocs)
+declared_each s (d ∷ ds) all h =
+    let parts = causes_none (first_bad_target s d.relocs) (first_bad_target s (flat_map (λ (x : Definition). x.relocs) ds)) (sym (bad_both s d.relocs (flat_map (λ (x : Definition). x.relocs) ds)) ∙ h) in
+    All-cons (λ (x : Definition). All (IsDeclaredTarget s) x.relocs) d ds (declared_all s d.relocs (All-head IsPlain d ds all) parts.0) (declared_each s ds (All-tail IsPlain d ds all) parts.1)
+
+before_all : (o : OpenModule) (marks : Marks) → IsModule o marks → All (λ (x : Definition). IsShareable (section_class o.settings o.state x)) o.state.definitions
+before_all o marks h =
+    All-weaker (IsBody o.state.target (length o.state.functions) (length o.state.objects)) (λ (x : Definition). IsShareable (section_class o.settings o.state x)) (λ x body. shareable o.settings o.state x body.plain) o.state.definitions h.bodies
+
+all_known : (o : OpenModule) (marks : Marks) (k : ℕ) → IsModule o marks → first_bad_reference o.state ≡ None → All (IsKnown o k) (placed_of o.settings o.state o.state.definitions)
+all_known o marks k h none =
     let ds : List Definition = o.state.definitions in
-    let ps : List Placed = placed_of o.settings o.state ds in
-    let n : ℕ = length o.state.functions in
-    let plain = All-weaker (IsBody n) (λ (d : Definition). d.relocs ≡ []) (λ d body. body_plain n d body) ds h.bodies in
-    let placed = All-unmap (λ (d : Definition). d.relocs ≡ []) (λ (p : Placed). p.definition) ps (subst (All (λ (d : Definition). d.relocs ≡ [])) (sym (placed_definitions o.settings o.state ds)) plain) in
-    let none = no_relocations o.settings o.state (members ps text.1) (All-filter (λ (p : Placed). p.section == text.1) (λ (p : Placed). p.definition.relocs ≡ []) ps placed) in
-    let empty : x.relocations ≡ [] = ap (λ (y : SectionData). y.relocations) text.3 ∙ none in
-    absurd (let k : None ≡ Some r = sym (ap (λ (rs : List Relocation). slice_get rs m) empty) ∙ found in cc)
+    let bodies : Definition → Type 0 = IsBody o.state.target (length o.state.functions) (length o.state.objects) in
+    let targets : Definition → Type 0 = λ d. All (IsDeclaredTarget o.state) d.relocs in
+    let both : Definition → Type 0 = λ d. bodies d × targets d in
+    let each = All-both bodies targets ds h.bodies (declared_each o.state ds (bodies_plain o marks h) none) in
+    let here = All-unmap both (λ (p : Placed). p.definition) (placed_of o.settings o.state ds) (subst (All both) (sym (placed_definitions o.settings o.state ds)) each) in
+    known_all o k (placed_of o.settings o.state ds) here (placed_class o.settings o.state ds (before_all o marks h)) (ends_within o.settings o.state k ds (all_least o marks h))
 
--- the object of a module can be written
-pub formed : (o : OpenModule) (marks : Marks) → IsModule o marks → IsFormedElf (object_of o.settings o.state)
-formed o marks h =
-    let plain = All-weaker (IsBody (length o.state.functions)) IsPlain (λ d body. body_plain (length o.state.functions) d body) o.state.definitions h.bodies in
-    subst IsFormedElf (partial_whole o.settings o.state plain) (record { symbols = formed_symbols o marks h; names = formed_names o marks h; relocations = formed_relocations o marks h })
+-- as many bytes are stored as the definitions of a section take
+section_long : (o : OpenModule) (k : ℕ) (c : Class) (x : SectionData) → is_unstored_class o.state c ≡ false → x ≡ section_with o.settings o.state c (members (placed_of o.settings o.state o.state.definitions) k)
+    → length x.contents ≡ end_of (map (extent_of o.state) (standing_in o.settings o.state k o.state.definitions))
+section_long o k c x stored is =
+    let ps : List Placed = members (placed_of o.settings o.state o.state.definitions) k in
+    ap (λ (y : SectionData). length y.contents) is ∙ ap (λ (b : Bool). length (cond b [] (joined (map (λ (p : Placed). piece_of o.state p.definition) ps)))) stored
+    ∙ joined_length o.state ps ∙ ap end_of (members_extents o.settings o.state k o.state.definitions)
+
+section_class_at : (o : OpenModule) (k : ℕ) (x : SectionData) → slice_get (partial o.settings o.state o.state.definitions).sections k ≡ Some x
+    → (c : Class) × (slice_get (sections_used (map (section_class o.settings o.state) o.state.definitions)) k ≡ Some c) × (x ≡ section_with o.settings o.state c (members (placed_of o.settings o.state o.state.definitions) k))
+unfolding partial
+section_class_at o k x at = class_at_of o.settings o.state (placed_of o.settings o.state o.state.definitions) (sections_used (map (section_class o.settings o.state) o.state.definitions)) 0 k k x (omega arith) at
+
+-- the relocations of a section are formed
+section_relocations : (o : OpenModule) (marks : Marks) → IsModule o marks → first_bad_reference o.state ≡ None → (k : ℕ) (c : Class) (x : SectionData) → slice_get (sections_used (map (section_class o.settings o.state) o.state.definitions)) k ≡ Some c
+    → x ≡ section_with o.settings o.state c (members (placed_of o.settings o.state o.state.definitions) k) → All (IsFormedRelocation (partial o.settings o.state o.state.definitions) x) x.relocations
+section_relocations o marks h none k c x there is =
+    let ps : List Placed = placed_of o.settings o.state o.state.definitions in
+    let P : Relocation → Type 0 = IsFormedRelocation (partial o.settings o.state o.state.definitions) x in
+    let Q : Placed → Type 0 = λ p. All P (relocations_at o.settings o.state p) in
+    let known = All-weaker (IsKnown o k) (λ (p : Placed). p.section ≡ k → Q p) (λ p w e. placed_relocations o marks k c x p h there is w e) ps (all_known o marks k h none) in
+    subst (All P) (sym (ap (λ (y : SectionData). y.relocations) is)) (All-flat P (relocations_at o.settings o.state) (members ps k) (All-members Q ps k known)) where
+      placed_relocations : (o : OpenModule) (marks : Marks) (k : ℕ) (c : Class) (x : SectionData) (p : Placed) → IsModule o marks → slice_get (sections_used (map (section_class o.settings o.state) o.state.definitions)) k ≡ Some c
+          → x ≡ section_with o.settings o.state c (members (placed_of o.settings o.state o.state.definitions) k) → IsKnown o k p → p.section ≡ k → All (IsFormedRelocation (partial o.settings o.state o.state.definitions) x) (relocations_at o.settings o.state p)
+      placed_relocations o marks k c x p h there is w e =
+          let same : section_class o.settings o.state p.definition ≡ c = (let one : Some (section_class o.settings o.state p.definition) ≡ Some c = sym w.class ∙ ap (slice_get (sections_used (map (section_class o.settings o.state) o.state.definitions))) e ∙ there in cc) in
+          let stored = ap (is_unstored_class o.state) (sym same) ∙ class_counted o.settings o.state p.definition h.begun.format w.body.plain in
+          let R : Relocation → Type 0 = IsFormedRelocation (partial o.settings o.state o.state.definitions) x in
+          let both = All-both (IsGood o.state.target (bytes_in p.definition.contents)) (IsDeclaredTarget o.state) p.definition.relocs (good_relocs o.state.target (bytes_in p.definition.contents) [] p.definition.relocs w.body.judged) w.targets in
+          let ends = w.ends e in
+          let long : is_unstored_class o.state c ≡ false → p.offset + room_of o.state p.definition ≤ length x.contents = λ f. (let size = section_long o k c x f is in omega (arith, ends, size)) in
+          All-map R (object_relocation o.settings o.state p.offset) p.definition.relocs
+          (All-weaker (λ r. IsGood o.state.target (bytes_in p.definition.contents) r × IsDeclaredTarget o.state r) (λ r. R (object_relocation o.settings o.state p.offset r)) (λ r g. formed_one_relocation o marks x c p r h w.body stored long g.0 g.1) p.definition.relocs both)
+
+formed_relocations : (o : OpenModule) (marks : Marks) → IsModule o marks → first_bad_reference o.state ≡ None → (k : ℕ) (x : SectionData) → slice_get (partial o.settings o.state o.state.definitions).sections k ≡ Some x → (m : ℕ) (r : Relocation) → slice_get x.relocations m ≡ Some r
+    → IsFormedRelocation (partial o.settings o.state o.state.definitions) x r
+formed_relocations o marks h none k x at m r found =
+    let class = section_class_at o k x at in
+    All-slice_get (IsFormedRelocation (partial o.settings o.state o.state.definitions) x) x.relocations m r (section_relocations o marks h none k class.0 x class.1 class.2) found
+
+-- the object of a module whose relocations go to what is declared can be written
+pub formed : (o : OpenModule) (marks : Marks) → IsModule o marks → first_bad_reference o.state ≡ None → IsFormedElf (object_of o.settings o.state)
+formed o marks h none =
+    subst IsFormedElf (partial_whole o.settings o.state (bodies_plain o marks h)) (record { symbols = formed_symbols o marks h; names = formed_names o marks h; relocations = formed_relocations o marks h none })
 
 object_format : (settings : Settings) (s : LinkState) → (object_of settings s).format ≡ s.target.triple.binary_format
 unfolding object_of
 object_format settings s = refl
 
-pub writable : (o : OpenModule) (marks : Marks) (object : ObjectData) → IsModule o marks → object ≡ object_of o.settings o.state → IsWritable object
-writable o marks object h e = rw e (record { format = object_format o.settings o.state ∙ h.begun.format; formed = formed o marks h })
+pub writable : (o : OpenModule) (marks : Marks) (object : ObjectData) → IsModule o marks → first_bad_reference o.state ≡ None → object ≡ object_of o.settings o.state → IsWritable object
+writable o marks object h none e = rw e (record { format = object_format o.settings o.state ∙ h.begun.format; formed = formed o marks h none })

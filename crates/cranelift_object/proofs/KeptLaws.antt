@@ -1,5 +1,5 @@
 -- What stays true of a module.
-use Rattle.std.proofs.Common.{◌≡◌, ◌≢◌, ℕ, zero, suc, ◌+◌, ◌||◌, ◌<◌, ◌≤◌, ◌^◌, ◌++◌, ◌∷◌, List, [], Bool, true, false, length, get_or, set, refl, ap, sym, ◌∙◌, arith, length-append, length-set, inl, inr, get_or-set_same, get_or-set_other}
+use Rattle.std.proofs.Common.{◌≡◌, ◌≢◌, ℕ, zero, suc, ◌+◌, ◌||◌, ◌==◌, ◌<◌, ◌≤◌, ◌++◌, ◌∷◌, List, [], Bool, true, false, length, get_or, set, refl, ap, sym, ◌∙◌, arith, length-append, length-set, inl, inr, get_or-set_same, get_or-set_other}
 use Rattle.std.proofs.lemmas.Bool.Decides.{eqb_tells}
 use Rattle.std.proofs.lemmas.List.Elements.{All-nil, All-push, All-weaker}
 use Rattle.std.proofs.lemmas.List.Folds.{list_any-append}
@@ -18,8 +18,8 @@ use Rattle.cranelift_module.specs.Declarations.{DeclarationLists}
 use Rattle.cranelift_module.specs.LinkState.{LinkState, state_of}
 use Rattle.cranelift_module.specs.Refusal.{is_same_identifier}
 use Rattle.cranelift_object.specs.Settings.{Settings}
-use Rattle.cranelift_object.specs.Opened.{OpenModule, function_definition}
-use Rattle.cranelift_object.specs.Kept.{IsBegun, IsBody, IsFirst, IsName, IsModule, Marks}
+use Rattle.cranelift_object.specs.Opened.{OpenModule}
+use Rattle.cranelift_object.specs.Kept.{IsBegun, IsDeclared, IsBody, IsFirst, IsName, IsModule, Marks}
 use Rattle.cranelift_object.specs.Part.{is_supported}
 use Rattle.cranelift_object.proofs.CreationLaws.{numbered-function, numbered-data}
 
@@ -49,7 +49,7 @@ kept_none settings target h =
       few = omega arith;
       few_objects = omega arith;
       order = (refl, refl);
-      bodies = All-nil (IsBody 0);
+      bodies = All-nil (IsBody target 0 0);
       apart = All-nil IsFirst;
       marked = refl;
       marking = λ k. refl;
@@ -71,8 +71,26 @@ false_past [] (suc k) = refl
 false_past (m ∷ marks) zero = refl
 false_past (m ∷ marks) (suc k) = false_past marks k
 
-IsBody-more : (count more : ℕ) (d : Definition) → count ≤ more → IsBody count d → IsBody more d
-IsBody-more count more d h b = let below : b.function < count = b.declared in record { function = b.function; contents = b.contents; declared = omega arith; small = b.small; is = b.is }
+declared-more : (functions objects more_functions more_objects : ℕ) (id : FuncOrDataId) → functions ≤ more_functions → objects ≤ more_objects → IsDeclared functions objects id → IsDeclared more_functions more_objects id
+declared-more functions objects more_functions more_objects (Func k) f d h = let below : k < functions = h in omega arith
+declared-more functions objects more_functions more_objects (Data k) f d h = let below : k < objects = h in omega arith
+
+-- it stays one where more is declared
+pub IsBody-more : (target : Target) (functions objects more_functions more_objects : ℕ) (d : Definition) → functions ≤ more_functions → objects ≤ more_objects → IsBody target functions objects d → IsBody target more_functions more_objects d
+IsBody-more target functions objects more_functions more_objects d f e b =
+    record {
+      declared = declared-more functions objects more_functions more_objects d.identifier f e b.declared;
+      sized = b.sized;
+      aligned = b.aligned;
+      judged = b.judged;
+      targets = b.targets;
+      text = b.text;
+      plain = b.plain;
+    }
+
+bodies-more : (target : Target) (functions objects more_functions more_objects : ℕ) (ds : List Definition) → functions ≤ more_functions → objects ≤ more_objects → All (IsBody target functions objects) ds → All (IsBody target more_functions more_objects) ds
+bodies-more target functions objects more_functions more_objects ds f e all =
+    All-weaker (IsBody target functions objects) (IsBody target more_functions more_objects) (λ d b. IsBody-more target functions objects more_functions more_objects d f e b) ds all
 
 pub kept_declared : (o : OpenModule) (marks : Marks) (row : FunctionRow) → IsModule o marks → IsName row.name → length o.state.functions < 4294967295 → IsModule (with_function o row) (record marks { functions = marks.functions ++ false ∷ [] })
 kept_declared o marks row h name few =
@@ -86,7 +104,7 @@ kept_declared o marks row h name few =
       few = omega arith;
       few_objects = h.few_objects;
       order = rw longer (numbered-function 0 0 n (length o.state.objects) o.state.created h.order);
-      bodies = All-weaker (IsBody n) (IsBody (length (o.state.functions ++ row ∷ []))) (λ d b. IsBody-more n (length (o.state.functions ++ row ∷ [])) d more b) o.state.definitions h.bodies;
+      bodies = bodies-more o.state.target n (length o.state.objects) (length (o.state.functions ++ row ∷ [])) (length o.state.objects) o.state.definitions more (omega arith) h.bodies;
       apart = h.apart;
       marked = length-append marks.functions (false ∷ []) ∙ ap (λ count. count + 1) h.marked ∙ sym longer;
       marking = λ k. false_past marks.functions k ∙ h.marking k;
@@ -98,6 +116,7 @@ pub kept_data : (o : OpenModule) (marks : Marks) (row : DataRow) → IsModule o 
 kept_data o marks row h name few =
     let n : ℕ = length o.state.objects in
     let longer : length (o.state.objects ++ row ∷ []) ≡ n + 1 = length-append o.state.objects (row ∷ []) in
+    let more : n ≤ length (o.state.objects ++ row ∷ []) = omega arith in
     record {
       begun = h.begun;
       names = h.names;
@@ -105,7 +124,7 @@ kept_data o marks row h name few =
       few = h.few;
       few_objects = omega arith;
       order = rw longer (numbered-data 0 0 (length o.state.functions) n o.state.created h.order);
-      bodies = h.bodies;
+      bodies = bodies-more o.state.target (length o.state.functions) n (length o.state.functions) (length (o.state.objects ++ row ∷ [])) o.state.definitions (omega arith) more h.bodies;
       apart = h.apart;
       marked = h.marked;
       marking = h.marking;
@@ -138,7 +157,7 @@ kept_raised o marks lists h same names objects =
       few = rw same h.few;
       few_objects = rw objects h.few_objects;
       order = rw (same, objects) h.order;
-      bodies = rw same h.bodies;
+      bodies = rw (same, objects) h.bodies;
       apart = h.apart;
       marked = h.marked ∙ sym same;
       marking = h.marking;
@@ -157,7 +176,7 @@ kept_raised_data o marks lists h same names functions =
       few = rw functions h.few;
       few_objects = rw same h.few_objects;
       order = rw (same, functions) h.order;
-      bodies = rw functions h.bodies;
+      bodies = rw (functions, same) h.bodies;
       apart = h.apart;
       marked = rw functions h.marked;
       marking = h.marking;
@@ -178,23 +197,25 @@ or_false : (b : Bool) → (b || false) ≡ b
 or_false true = refl
 or_false false = refl
 
-marking_more : (marks : List Bool) (ds : List Definition) (function : ℕ) (contents : List ℕ) (j : ℕ) → function < length marks → ((k : ℕ) → get_or marks k false ≡ list_any (λ (d : Definition). is_same_identifier (Func k) d.identifier) ds)
-    → get_or (set marks function true) j false ≡ list_any (λ (d : Definition). is_same_identifier (Func j) d.identifier) (ds ++ function_definition function contents ∷ [])
-marking_more marks ds function contents j below marking =
-    elim (eqb_tells j function) [
-      | inl e ↦ rw (list_any-append, e.0, or_true (list_any (λ (d : Definition). is_same_identifier (Func j) d.identifier) ds), e.1) (get_or-set_same marks function true false below)
-      | inr e ↦ rw (list_any-append, e.0, or_false (list_any (λ (d : Definition). is_same_identifier (Func j) d.identifier) ds), ← marking j) (get_or-set_other marks function j true false e.1)
+marking_more : (marks : List Bool) (ds : List Definition) (d : Definition) (id : ℕ → FuncOrDataId) (k j : ℕ) → k < length marks → ((i : ℕ) → is_same_identifier (id i) d.identifier ≡ (i == k)) → ((i : ℕ) → get_or marks i false ≡ list_any (λ (x : Definition). is_same_identifier (id i) x.identifier) ds)
+    → get_or (set marks k true) j false ≡ list_any (λ (x : Definition). is_same_identifier (id j) x.identifier) (ds ++ d ∷ [])
+marking_more marks ds d id k j below here marking =
+    elim (eqb_tells j k) [
+      | inl e ↦ rw (list_any-append, here j, e.0, or_true (list_any (λ (x : Definition). is_same_identifier (id j) x.identifier) ds), e.1) (get_or-set_same marks k true false below)
+      | inr e ↦ rw (list_any-append, here j, e.0, or_false (list_any (λ (x : Definition). is_same_identifier (id j) x.identifier) ds), ← marking j) (get_or-set_other marks k j true false e.1)
     ]
 
-no_data_more : (ds : List Definition) (function : ℕ) (contents : List ℕ) (j : ℕ) → list_any (λ (d : Definition). is_same_identifier (Data j) d.identifier) (ds ++ function_definition function contents ∷ []) ≡ list_any (λ (d : Definition). is_same_identifier (Data j) d.identifier) ds
-no_data_more ds function contents j = rw list_any-append (or_false (list_any (λ (d : Definition). is_same_identifier (Data j) d.identifier) ds))
+marking_past : (marks : List Bool) (ds : List Definition) (d : Definition) (id : ℕ → FuncOrDataId) (j : ℕ) → is_same_identifier (id j) d.identifier ≡ false → ((i : ℕ) → get_or marks i false ≡ list_any (λ (x : Definition). is_same_identifier (id i) x.identifier) ds)
+    → get_or marks j false ≡ list_any (λ (x : Definition). is_same_identifier (id j) x.identifier) (ds ++ d ∷ [])
+marking_past marks ds d id j apart marking = marking j ∙ sym (rw (list_any-append, apart) (or_false (list_any (λ (x : Definition). is_same_identifier (id j) x.identifier) ds)))
 
-pub kept_defined : (o : OpenModule) (marks : Marks) (function : ℕ) (contents : List ℕ) → IsModule o marks → function < length o.state.functions → get_or marks.functions function false ≡ false → length contents < 2 ^ 63
-    → IsModule (with_definition o (function_definition function contents)) (record marks { functions = set marks.functions function true })
-kept_defined o marks function contents h below free small =
-    let d : Definition = function_definition function contents in
-    let in' : function < length marks.functions = rw h.marked below in
-    let body : IsBody (length o.state.functions) d = record { function = function; contents = contents; declared = below; small = small; is = refl } in
+-- a module with one more definition of a function
+pub kept_defined : (o : OpenModule) (marks : Marks) (d : Definition) (k : ℕ) → IsModule o marks → d.identifier ≡ Func k → IsBody o.state.target (length o.state.functions) (length o.state.objects) d → k < length o.state.functions → get_or marks.functions k false ≡ false
+    → IsModule (with_definition o d) (record marks { functions = set marks.functions k true })
+kept_defined o marks d k h e body below free =
+    let in' : k < length marks.functions = rw h.marked below in
+    let bodies : Definition → Type 0 = IsBody o.state.target (length o.state.functions) (length o.state.objects) in
+    let first : list_any (λ (x : Definition). is_same_identifier d.identifier x.identifier) o.state.definitions ≡ false = rw e (sym (h.marking k) ∙ free) in
     record {
       begun = h.begun;
       names = h.names;
@@ -202,16 +223,43 @@ kept_defined o marks function contents h below free small =
       few = h.few;
       few_objects = h.few_objects;
       order = h.order;
-      bodies = All-push (IsBody (length o.state.functions)) o.state.definitions d h.bodies body;
-      apart = rw (moments-end o.state.definitions d) (All-push IsFirst (moments o.state.definitions) (record { before = o.state.definitions; here = d }) h.apart (sym (h.marking function) ∙ free));
-      marked = length-set marks.functions function true ∙ h.marked;
-      marking = λ j. marking_more marks.functions o.state.definitions function contents j in' h.marking;
+      bodies = All-push bodies o.state.definitions d h.bodies body;
+      apart = rw (moments-end o.state.definitions d) (All-push IsFirst (moments o.state.definitions) (record { before = o.state.definitions; here = d }) h.apart first);
+      marked = length-set marks.functions k true ∙ h.marked;
+      marking = λ j. marking_more marks.functions o.state.definitions d Func k j in' (λ i. ap (is_same_identifier (Func i)) e) h.marking;
       marked_objects = h.marked_objects;
-      marking_objects = λ j. h.marking_objects j ∙ sym (no_data_more o.state.definitions function contents j);
+      marking_objects = λ j. marking_past marks.objects o.state.definitions d Data j (ap (is_same_identifier (Data j)) e) h.marking_objects;
     }
 
--- a module with one more definition
-pub kept_body : (o : OpenModule) (marks : Marks) (d : Definition) (definitions : List Definition) (function i : ℕ) (contents : List ℕ) → IsModule o marks → function < length o.state.functions → get_or marks.functions function false ≡ false → length contents < 2 ^ 63
-    → d ≡ function_definition function contents → definitions ≡ o.state.definitions ++ d ∷ [] → i ≡ function
+-- a module with one more definition of a data object
+pub kept_defined_data : (o : OpenModule) (marks : Marks) (d : Definition) (k : ℕ) → IsModule o marks → d.identifier ≡ Data k → IsBody o.state.target (length o.state.functions) (length o.state.objects) d → k < length o.state.objects → get_or marks.objects k false ≡ false
+    → IsModule (with_definition o d) (record marks { objects = set marks.objects k true })
+kept_defined_data o marks d k h e body below free =
+    let in' : k < length marks.objects = rw h.marked_objects below in
+    let bodies : Definition → Type 0 = IsBody o.state.target (length o.state.functions) (length o.state.objects) in
+    let first : list_any (λ (x : Definition). is_same_identifier d.identifier x.identifier) o.state.definitions ≡ false = rw e (sym (h.marking_objects k) ∙ free) in
+    record {
+      begun = h.begun;
+      names = h.names;
+      object_names = h.object_names;
+      few = h.few;
+      few_objects = h.few_objects;
+      order = h.order;
+      bodies = All-push bodies o.state.definitions d h.bodies body;
+      apart = rw (moments-end o.state.definitions d) (All-push IsFirst (moments o.state.definitions) (record { before = o.state.definitions; here = d }) h.apart first);
+      marked = h.marked;
+      marking = λ j. marking_past marks.functions o.state.definitions d Func j (ap (is_same_identifier (Func j)) e) h.marking;
+      marked_objects = length-set marks.objects k true ∙ h.marked_objects;
+      marking_objects = λ j. marking_more marks.objects o.state.definitions d Data k j in' (λ i. ap (is_same_identifier (Data i)) e) h.marking_objects;
+    }
+
+-- the same with the lists in hand
+pub kept_body : (o : OpenModule) (marks : Marks) (d : Definition) (definitions : List Definition) (k i : ℕ) → IsModule o marks → d.identifier ≡ Func k → IsBody o.state.target (length o.state.functions) (length o.state.objects) d → k < length o.state.functions → get_or marks.functions k false ≡ false
+    → definitions ≡ o.state.definitions ++ d ∷ [] → i ≡ k
     → IsModule (record { settings = o.settings; state = record { target = o.state.target; functions = o.state.functions; objects = o.state.objects; created = o.state.created; definitions = definitions } }) (record { functions = set marks.functions i true; objects = marks.objects })
-kept_body o marks d definitions function i contents h below free small e f g = rw (f, e, g) (kept_defined o marks function contents h below free small)
+kept_body o marks d definitions k i h e body below free f g = rw (f, g) (kept_defined o marks d k h e body below free)
+
+pub kept_body_data : (o : OpenModule) (marks : Marks) (d : Definition) (definitions : List Definition) (k i : ℕ) → IsModule o marks → d.identifier ≡ Data k → IsBody o.state.target (length o.state.functions) (length o.state.objects) d → k < length o.state.objects → get_or marks.objects k false ≡ false
+    → definitions ≡ o.state.definitions ++ d ∷ [] → i ≡ k
+    → IsModule (record { settings = o.settings; state = record { target = o.state.target; functions = o.state.functions; objects = o.state.objects; created = o.state.created; definitions = definitions } }) (record { functions = marks.functions; objects = set marks.objects i true })
+kept_body_data o marks d definitions k i h e body below free f g = rw (f, g) (kept_defined_data o marks d k h e body below free)

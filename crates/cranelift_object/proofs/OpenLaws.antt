@@ -1,4 +1,4 @@
--- The section of one more function: one of its own, or the standard one.
+-- The section of one more definition: one of its own, or the standard one.
 use Rattle.std.proofs.Common.{◌≡◌, ℕ, ◌+◌, ◌||◌, ◌<◌, ◌++◌, ◌∷◌, List, [], Bool, true, false, not, cond, length, map, Option, Some, None, refl, ap, sym, ◌∙◌, arith, inl, inr}
 use Rattle.std.proofs.lemmas.List.{append-nil}
 use Rattle.std.proofs.lemmas.Bool.{cases_Bool}
@@ -6,21 +6,21 @@ use Rattle.std.proofs.lemmas.List.Elements.{All-weaker}
 use Rattle.std.specs.Prelude.{unwrap_or}
 use Rattle.std.specs.List.{list_any, position_from, position_or_len}
 use Rattle.object_core.specs.declared.kinds.StandardSection.{StandardSection}
-use Rattle.object_core.specs.declared.kinds.StandardSection.TheVariants.{Text}
-use Rattle.object_core.specs.Object.{SectionData}
+use Rattle.object_core.specs.Object.{SectionData, ObjectData}
 use Rattle.object_core.specs.Places.{end_of, joined}
-use Rattle.object_core.specs.Standard.{is_same_shared, empty_standard, empty_subsection}
-use Rattle.object_core.specs.Appending.{standard_at, with_standard, with_standard_section, with_subsection}
+use Rattle.object_core.specs.Standard.{standard_name, is_same_shared, empty_standard}
+use Rattle.object_core.specs.Appending.{standard_at, with_standard, with_standard_section, with_retain, retained}
 use Rattle.cranelift_module.specs.Definitions.{Definition}
 use Rattle.cranelift_module.specs.LinkState.{LinkState}
 use Rattle.cranelift_object.specs.Settings.{Settings}
-use Rattle.cranelift_object.specs.Opened.{function_definition}
-use Rattle.cranelift_object.specs.SectionClass.{Class, section_class, standard_class}
+use Rattle.cranelift_object.specs.SectionClass.{Class, section_class, standard_class, unused_class}
 use Rattle.cranelift_object.specs.Placing.{Placed, share, sections_used, section_number}
-use Rattle.cranelift_object.specs.Linked.{section_with}
+use Rattle.cranelift_object.specs.Linked.{section_with, is_unstored_class}
+use Rattle.cranelift_object.specs.Product.{empty_class, with_shared_class, with_class, shared_place, class_place}
 use Rattle.cranelift_object.specs.Partial.{placed_of, sections_from, partial, opened, number_behind}
 use Rattle.cranelift_object.proofs.SectionLaws.{sections_opened}
-use Rattle.cranelift_object.proofs.ClassLaws.{placed_below, used-end, any_used, number_new}
+use Rattle.cranelift_object.proofs.ClassLaws.{placed_below, used-end, any_used, number_new, IsShareable}
+use Rattle.cranelift_object.proofs.ChangeLaws.{changed_last}
 
 -- -- numbers of sections
 
@@ -59,21 +59,19 @@ number_shared settings s ds standard classes class e =
 
 -- -- empty sections
 
-pub empty_own : (settings : Settings) (s : LinkState) → section_with settings s (standard_class Text true false) [] ≡ empty_subsection Text
+same_either : (b : Bool) → cond {A = List ℕ} b [] [] ≡ []
+same_either true = refl
+same_either false = refl
+
+-- a section in which nothing is yet
+pub section_empty : (settings : Settings) (s : LinkState) (class : Class) → section_with settings s class [] ≡ empty_class class
 unfolding end_of joined
-empty_own settings s = refl
+section_empty settings s class = ap (λ (contents : List ℕ). record (empty_class class) { contents = contents }) (same_either (is_unstored_class s class))
 
-pub empty_shared : (settings : Settings) (s : LinkState) → section_with settings s (standard_class Text false false) [] ≡ empty_standard Text
-unfolding end_of joined
-empty_shared settings s = refl
+plain_empty : (standard : StandardSection) → empty_class (standard_class standard false false) ≡ empty_standard standard
+plain_empty standard = ap (λ (name : List ℕ). record (empty_standard standard) { name = name }) (append-nil (standard_name standard))
 
--- -- the section of one more function
-
-own_class : (settings : Settings) (s : LinkState) (function : ℕ) (contents : List ℕ) → settings.function_sections ≡ true → section_class settings s (function_definition function contents) ≡ standard_class Text true false
-own_class settings s function contents e = ap (λ (own : Bool). standard_class Text own false) e
-
-shared_class : (settings : Settings) (s : LinkState) (function : ℕ) (contents : List ℕ) → settings.function_sections ≡ false → section_class settings s (function_definition function contents) ≡ standard_class Text false false
-shared_class settings s function contents e = ap (λ (own : Bool). standard_class Text own false) e
+-- -- the section of one more definition
 
 none_shares : (c : Class) (classes : List Class) → c.shared ≡ None → list_any (share c) classes ≡ false
 none_shares c [] e = refl
@@ -94,22 +92,13 @@ opened_new settings s ds d new none e =
     in
     ap (λ (xs : List SectionData). record (partial settings s ds) { sections = xs }) listed
 
--- a function with a section of its own
-pub opened_own : (settings : Settings) (s : LinkState) (ds : List Definition) (function : ℕ) (contents : List ℕ) → settings.function_sections ≡ true → opened settings s ds (function_definition function contents) ≡ with_subsection (partial settings s ds) Text
-opened_own settings s ds function contents own =
-    let d : Definition = function_definition function contents in
-    let class = own_class settings s function contents own in
-    opened_new settings s ds d (empty_subsection Text) (none_shares (section_class settings s d) (map (section_class settings s) ds) (ap (λ (c : Class). c.shared) class)) (ap (λ (c : Class). section_with settings s c []) class ∙ empty_own settings s)
-
-pub number_own : (settings : Settings) (s : LinkState) (ds : List Definition) (function : ℕ) (contents : List ℕ) → settings.function_sections ≡ true → number_behind settings s ds (function_definition function contents) ≡ length (partial settings s ds).sections
+pub number_new_section : (settings : Settings) (s : LinkState) (ds : List Definition) (d : Definition) → (section_class settings s d).shared ≡ None → length (partial settings s ds).sections ≡ number_behind settings s ds d
 unfolding partial
-number_own settings s ds function contents own =
-    let d : Definition = function_definition function contents in
-    let class = own_class settings s function contents own in
+number_new_section settings s ds d alone =
     let classes : List Class = map (section_class settings s) ds in
-    number_new classes (section_class settings s d) (none_shares (section_class settings s d) classes (ap (λ (c : Class). c.shared) class)) ∙ sym (sections_length settings s 0 (sections_used classes) (placed_of settings s ds))
+    sections_length settings s 0 (sections_used classes) (placed_of settings s ds) ∙ sym (number_new classes (section_class settings s d) (none_shares (section_class settings s d) classes alone))
 
--- -- the shared section
+-- -- a shared section
 
 found_some_from : {A : Type 0} (test : A → Bool) (i : ℕ) (xs : List A) (b : Bool) → (list_any test xs ≡ true → (k : ℕ) × (position_from test (i + 1) xs ≡ Some k)) → (b || list_any test xs) ≡ true → (k : ℕ) × (cond b (Some i) (position_from test (i + 1) xs) ≡ Some k)
 found_some_from test i xs true more h = (i, refl)
@@ -136,32 +125,65 @@ opened_known settings s ds d known =
     ap (λ (cs : List Class). record (partial settings s ds) { sections = sections_from settings s 0 cs (placed_of settings s ds) }) same
 
 -- where the standard section stands among those of some definitions
-standard_of : (settings : Settings) (s : LinkState) (ds : List Definition) → standard_at (partial settings s ds).sections Text ≡ position_from (λ (c : Class). is_same_shared (Some Text) c.shared) 0 (sections_used (map (section_class settings s) ds))
+standard_of : (settings : Settings) (s : LinkState) (ds : List Definition) (standard : StandardSection) → standard_at (partial settings s ds).sections standard ≡ position_from (λ (c : Class). is_same_shared (Some standard) c.shared) 0 (sections_used (map (section_class settings s) ds))
 unfolding partial
-standard_of settings s ds = shared_from settings s Text 0 0 (sections_used (map (section_class settings s) ds)) (placed_of settings s ds)
+standard_of settings s ds standard = shared_from settings s standard 0 0 (sections_used (map (section_class settings s) ds)) (placed_of settings s ds)
 
-any_standard : (settings : Settings) (s : LinkState) (ds : List Definition) (class : Class) → class.shared ≡ Some Text → list_any (λ (c : Class). is_same_shared (Some Text) c.shared) (sections_used (map (section_class settings s) ds)) ≡ list_any (share class) (map (section_class settings s) ds)
-any_standard settings s ds class e = ap (λ (shared : Option StandardSection). list_any (λ (c : Class). is_same_shared shared c.shared) (sections_used (map (section_class settings s) ds))) (sym e) ∙ any_used class (map (section_class settings s) ds)
+any_standard : (settings : Settings) (s : LinkState) (ds : List Definition) (class : Class) (standard : StandardSection) → class.shared ≡ Some standard → list_any (λ (c : Class). is_same_shared (Some standard) c.shared) (sections_used (map (section_class settings s) ds)) ≡ list_any (share class) (map (section_class settings s) ds)
+any_standard settings s ds class standard e = ap (λ (shared : Option StandardSection). list_any (λ (c : Class). is_same_shared shared c.shared) (sections_used (map (section_class settings s) ds))) (sym e) ∙ any_used class (map (section_class settings s) ds)
 
--- a function in the shared section
-pub opened_shared : (settings : Settings) (s : LinkState) (ds : List Definition) (function : ℕ) (contents : List ℕ) → settings.function_sections ≡ false → opened settings s ds (function_definition function contents) ≡ with_standard_section (partial settings s ds) Text
-opened_shared settings s ds function contents shared =
-    let d : Definition = function_definition function contents in
+opened_shared : (settings : Settings) (s : LinkState) (ds : List Definition) (d : Definition) (standard : StandardSection) → IsShareable (section_class settings s d) → (section_class settings s d).shared ≡ Some standard → opened settings s ds d ≡ with_standard_section (partial settings s ds) standard
+opened_shared settings s ds d standard here e =
     let class : Class = section_class settings s d in
-    let same = shared_class settings s function contents shared in
-    let text : class.shared ≡ Some Text = ap (λ (c : Class). c.shared) same in
-    let any = any_standard settings s ds class text in
-    let test : Class → Bool = λ c. is_same_shared (Some Text) c.shared in
+    let any = any_standard settings s ds class standard e in
+    let test : Class → Bool = λ c. is_same_shared (Some standard) c.shared in
     let used : List Class = sections_used (map (section_class settings s) ds) in
     elim (cases_Bool (list_any (share class) (map (section_class settings s) ds))) [
-      | inl known ↦ (let found = found_some test 0 used (any ∙ known) in opened_known settings s ds d known ∙ ap (with_standard (partial settings s ds) Text) (sym (standard_of settings s ds ∙ found.1)))
+      | inl known ↦ (let found = found_some test 0 used (any ∙ known) in
+          opened_known settings s ds d known ∙ ap (with_standard (partial settings s ds) standard) (sym (standard_of settings s ds standard ∙ found.1)))
       | inr new ↦ (let found = found_none test 0 used (any ∙ new) in
-          opened_new settings s ds d (empty_standard Text) new (ap (λ (c : Class). section_with settings s c []) same ∙ empty_shared settings s) ∙ ap (with_standard (partial settings s ds) Text) (sym (standard_of settings s ds ∙ found)))
+          opened_new settings s ds d (empty_standard standard) new (section_empty settings s class ∙ ap empty_class (here standard e) ∙ plain_empty standard) ∙ ap (with_standard (partial settings s ds) standard) (sym (standard_of settings s ds standard ∙ found)))
     ]
 
-pub number_text : (settings : Settings) (s : LinkState) (ds : List Definition) (function : ℕ) (contents : List ℕ) → settings.function_sections ≡ false
-    → unwrap_or (standard_at (partial settings s ds).sections Text) (length (partial settings s ds).sections) ≡ number_behind settings s ds (function_definition function contents)
+-- -- by what an object offers
+
+opened_by : (settings : Settings) (s : LinkState) (ds : List Definition) (d : Definition) (shared : Option StandardSection) → IsShareable (section_class settings s d) → (section_class settings s d).shared ≡ shared
+    → opened settings s ds d ≡ with_shared_class (partial settings s ds) (section_class settings s d) shared
+opened_by settings s ds d None here e =
+    opened_new settings s ds d (empty_class (section_class settings s d)) (none_shares (section_class settings s d) (map (section_class settings s) ds) e) (section_empty settings s (section_class settings s d))
+opened_by settings s ds d (Some standard) here e = opened_shared settings s ds d standard here e
+
+-- the section of one more definition is that of its class
+pub opened_class : (settings : Settings) (s : LinkState) (ds : List Definition) (d : Definition) → IsShareable (section_class settings s d) → opened settings s ds d ≡ with_class (partial settings s ds) (section_class settings s d)
+opened_class settings s ds d here = opened_by settings s ds d (section_class settings s d).shared here refl
+
+number_by : (settings : Settings) (s : LinkState) (ds : List Definition) (d : Definition) (shared : Option StandardSection) → (section_class settings s d).shared ≡ shared → shared_place (partial settings s ds) shared ≡ number_behind settings s ds d
 unfolding partial
-number_text settings s ds function contents shared =
-    let d : Definition = function_definition function contents in
-    number_shared settings s ds Text (map (section_class settings s) ds) (section_class settings s d) (ap (λ (c : Class). c.shared) (shared_class settings s function contents shared))
+number_by settings s ds d None e = number_new_section settings s ds d e
+number_by settings s ds d (Some standard) e = number_shared settings s ds standard (map (section_class settings s) ds) (section_class settings s d) e
+
+-- and so is its number
+pub number_class : (settings : Settings) (s : LinkState) (ds : List Definition) (d : Definition) → class_place (partial settings s ds) (section_class settings s d) ≡ number_behind settings s ds d
+number_class settings s ds d = number_by settings s ds d (section_class settings s d).shared refl
+
+-- -- the mark that the linker keeps a section
+
+retained_class : (c : Class) → retained (empty_class (unused_class c)) ≡ record (empty_class c) { retain = true }
+retained_class c = refl
+
+marked_by : (o : ObjectData) (c : Class) (shared : Option StandardSection) → shared ≡ None → c.retain ≡ true → with_retain (with_shared_class o (unused_class c) shared) (shared_place o shared) ≡ with_shared_class o c shared
+marked_by o c None e marked =
+    ap (λ (xs : List SectionData). record o { sections = xs }) (changed_last retained o.sections (empty_class (unused_class c)))
+    ∙ ap (λ (b : Bool). record o { sections = o.sections ++ record (empty_class c) { retain = b } ∷ [] }) (sym marked)
+marked_by o c (Some standard) e marked = absurd (cc)
+
+-- a class that is marked, by a mark behind the call
+pub marked_class : (o : ObjectData) (c : Class) → c.shared ≡ None → c.retain ≡ true → with_retain (with_class o (unused_class c)) (class_place o c) ≡ with_class o c
+marked_class o c e marked = marked_by o c c.shared e marked
+
+unmarked_by : (o : ObjectData) (c : Class) (shared : Option StandardSection) → c.retain ≡ false → with_shared_class o (unused_class c) shared ≡ with_shared_class o c shared
+unmarked_by o c None unmarked = ap (λ (b : Bool). record o { sections = o.sections ++ record (empty_class c) { retain = b } ∷ [] }) (sym unmarked)
+unmarked_by o c (Some standard) unmarked = refl
+
+pub unmarked_class : (o : ObjectData) (c : Class) → c.retain ≡ false → with_class o (unused_class c) ≡ with_class o c
+unmarked_class o c unmarked = unmarked_by o c c.shared unmarked

@@ -10,16 +10,20 @@ use Rattle.std.specs.List.{All}
 use Rattle.std.specs.Int.{next_multiple_of}
 use Rattle.ir_core.proofs.MomentLaws.{by_end}
 use Rattle.object_core.specs.Places.{Extent, Piece, end_of, greatest_align, joined}
-use Rattle.object_core.specs.Standard.{is_zero_fill}
-use Rattle.object_core.specs.Appending.{changed_at, with_contents}
+use Rattle.object_core.specs.declared.relocation.Relocation.{Relocation}
+use Rattle.object_core.specs.Object.{SectionData}
+use Rattle.object_core.specs.Appending.{changed_at, with_contents, with_room, stored_in, room_in}
+use Rattle.ir_core.specs.declared.target.BinaryFormat.{BinaryFormat}
+use Rattle.ir_core.specs.declared.target.BinaryFormat.TheVariants.{Elf, Coff, Macho, Wasm, Unknown}
 use Rattle.cranelift_module.specs.Call.{Contents, bytes, zeros}
-use Rattle.cranelift_module.specs.Definitions.{contents_of, size_of}
+use Rattle.cranelift_module.specs.Definitions.{Definition, contents_of, size_of}
 use Rattle.cranelift_module.specs.LinkState.{LinkState}
 use Rattle.cranelift_object.specs.Settings.{Settings}
 use Rattle.cranelift_object.specs.SectionClass.{Class}
-use Rattle.cranelift_object.specs.Placing.{Placed, align_of, extent_of}
+use Rattle.cranelift_object.specs.Placing.{Placed, align_of, extent_of, room_of}
 use Rattle.cranelift_object.specs.Partial.{sections_from}
-use Rattle.cranelift_object.specs.Linked.{section_with, members, relocations_of, elf_relocation_of}
+use Rattle.cranelift_object.specs.Linked.{section_with, members, relocations_of, object_relocation, stored_of, piece_of, is_unstored_class}
+use Rattle.cranelift_object.specs.Product.{relocated_by}
 
 -- -- one more member of one section
 
@@ -39,8 +43,20 @@ pub contents_length : (c : Contents) → length (contents_of c) ≡ size_of c
 contents_length (bytes xs) = refl
 contents_length (zeros n) = let nothing : ℕ = 0 in length-replicate n nothing
 
+-- contents are stored in the room that they take
+stored_room : (format : BinaryFormat) (xs : List ℕ) → length (stored_in format xs) ≡ room_in format (length xs)
+stored_room Elf xs = refl
+stored_room Coff xs = refl
+stored_room Macho [] = refl
+stored_room Macho (x ∷ xs) = omega arith
+stored_room Wasm xs = refl
+stored_room Unknown xs = refl
+
+pub stored_length : (s : LinkState) (d : Definition) → length (stored_of s d) ≡ room_of s d
+stored_length s d = stored_room s.target.triple.binary_format (contents_of d.contents) ∙ ap (room_in s.target.triple.binary_format) (contents_length d.contents)
+
 abbrev piece : LinkState → Placed → Piece
-piece s p = record { align = align_of s p.definition; contents = contents_of p.definition.contents }
+piece s p = piece_of s p.definition
 
 abbrev extent : LinkState → Placed → Extent
 extent s p = extent_of s p.definition
@@ -50,7 +66,7 @@ joined_one s ps p h =
     let front : List ℕ = joined (map (piece s) ps) in
     let gap : ℕ = next_multiple_of (length front) (align_of s p.definition) - length front in
     let nothing : ℕ = 0 in
-    rw (map-append, map-append, joined-end, end_of-end, length-append, length-append, length-replicate gap nothing, contents_length p.definition.contents, ← h) (omega arith)
+    rw (map-append, map-append, joined-end, end_of-end, length-append, length-append, length-replicate gap nothing, stored_length s p.definition, ← h) (omega arith)
 
 -- as many bytes are joined as the extents take
 pub joined_length : (s : LinkState) (ps : List Placed) → length (joined (map (piece s) ps)) ≡ end_of (map (extent s) ps)
@@ -59,16 +75,29 @@ joined_length s = by_end (λ ps. length (joined (map (piece s) ps)) ≡ end_of (
 
 -- -- a section with one more definition in it
 
-pub section_with-end : (settings : Settings) (s : LinkState) (class : Class) (ps : List Placed) (p : Placed) → p.definition.relocs ≡ [] → is_zero_fill class.kind ≡ false
-    → section_with settings s class (ps ++ p ∷ []) ≡ with_contents (contents_of p.definition.contents) (align_of s p.definition) (section_with settings s class ps)
-section_with-end settings s class ps p none holds =
+-- a section with the contents of one more definition, or with their room alone
+abbrev pub grown : Bool → LinkState → Definition → SectionData → SectionData
+grown true s d = with_room (room_of s d) (align_of s d)
+grown false s d = with_contents (stored_of s d) (align_of s d)
+
+-- the relocations of a definition, in its section
+abbrev pub relocations_at : Settings → LinkState → Placed → List Relocation
+relocations_at settings s p = map (object_relocation settings s p.offset) p.definition.relocs
+
+relocations-end : (settings : Settings) (s : LinkState) (ps : List Placed) (p : Placed) → relocations_of settings s (ps ++ p ∷ []) ≡ relocations_of settings s ps ++ relocations_at settings s p
+relocations-end settings s ps p = flat_map-append (relocations_at settings s) ps (p ∷ []) ∙ ap (λ rs. relocations_of settings s ps ++ rs) (append-nil (relocations_at settings s p))
+
+pub section_with-end : (b : Bool) (settings : Settings) (s : LinkState) (class : Class) (ps : List Placed) (p : Placed) → is_unstored_class s class ≡ b
+    → section_with settings s class (ps ++ p ∷ []) ≡ relocated_by (relocations_at settings s p) (grown b s p.definition (section_with settings s class ps))
+section_with-end true settings s class ps p holds =
+    let aligns = ap greatest_align (map-append (extent s) ps (p ∷ [])) ∙ greatest_align-end (map (extent s) ps) (extent s p) in
+    let sizes = ap end_of (map-append (extent s) ps (p ∷ [])) ∙ end_of-end (map (extent s) ps) (extent s p) in
+    rw (aligns, sizes, holds, relocations-end settings s ps p) refl
+section_with-end false settings s class ps p holds =
     let aligns = ap greatest_align (map-append (extent s) ps (p ∷ [])) ∙ greatest_align-end (map (extent s) ps) (extent s p) in
     let sizes = ap end_of (map-append (extent s) ps (p ∷ [])) ∙ end_of-end (map (extent s) ps) (extent s p) in
     let contents = ap joined (map-append (piece s) ps (p ∷ [])) ∙ joined-end (map (piece s) ps) (piece s p) in
-    let relocations =
-    flat_map-append (λ (q : Placed). map (elf_relocation_of settings s q.offset) q.definition.relocs) ps (p ∷ []) ∙ ap (λ rs. relocations_of settings s ps ++ (map (elf_relocation_of settings s p.offset) rs ++ [])) none ∙ append-nil (relocations_of settings s ps)
-    in
-    rw (aligns, sizes, contents, holds, joined_length s ps, contents_length p.definition.contents, relocations) refl
+    rw (aligns, sizes, contents, holds, joined_length s ps, stored_length s p.definition, relocations-end settings s ps p) refl
 
 -- -- the sections of a list of classes
 
@@ -97,19 +126,19 @@ sections_above settings s i (c ∷ classes) ps p h =
     rw (members_same ps p i ne, sections_above settings s (i + 1) classes ps p below) refl
 
 -- one more definition changes its own section alone
-pub sections_changed : (settings : Settings) (s : LinkState) (i k : ℕ) (classes : List Class) (c : Class) (ps : List Placed) (p : Placed) → p.section ≡ i + k → slice_get classes k ≡ Some c → p.definition.relocs ≡ [] → is_zero_fill c.kind ≡ false
-    → sections_from settings s i classes (ps ++ p ∷ []) ≡ changed_at k (with_contents (contents_of p.definition.contents) (align_of s p.definition)) (sections_from settings s i classes ps)
-sections_changed settings s i k [] c ps p e at none holds = absurd (cc)
-sections_changed settings s i zero (d ∷ classes) c ps p e at none holds =
+pub sections_changed : (b : Bool) (settings : Settings) (s : LinkState) (i k : ℕ) (classes : List Class) (c : Class) (ps : List Placed) (p : Placed) → p.section ≡ i + k → slice_get classes k ≡ Some c → is_unstored_class s c ≡ b
+    → sections_from settings s i classes (ps ++ p ∷ []) ≡ changed_at k (λ x. relocated_by (relocations_at settings s p) (grown b s p.definition x)) (sections_from settings s i classes ps)
+sections_changed b settings s i k [] c ps p e at holds = absurd (cc)
+sections_changed b settings s i zero (d ∷ classes) c ps p e at holds =
     let same : d ≡ c = cc in
     let here : p.section ≡ i = omega arith in
     let below : p.section < i + 1 = omega arith in
-    let kind : is_zero_fill d.kind ≡ false = rw same holds in
-    rw (members_more ps p i here, section_with-end settings s d (members ps i) p none kind, sections_above settings s (i + 1) classes ps p below) refl
-sections_changed settings s i (suc k) (d ∷ classes) c ps p e at none holds =
+    let kind : is_unstored_class s d ≡ b = rw same holds in
+    rw (members_more ps p i here, section_with-end b settings s d (members ps i) p kind, sections_above settings s (i + 1) classes ps p below) refl
+sections_changed b settings s i (suc k) (d ∷ classes) c ps p e at holds =
     let ne : p.section ≢ i = omega arith in
     let next : p.section ≡ i + 1 + k = omega arith in
-    rw (members_same ps p i ne, sections_changed settings s (i + 1) k classes c ps p next at none holds) refl
+    rw (members_same ps p i ne, sections_changed b settings s (i + 1) k classes c ps p next at holds) refl
 
 members_none : (ps : List Placed) (n : ℕ) → All (λ (p : Placed). p.section < n) ps → members ps n ≡ []
 members_none [] n h = refl

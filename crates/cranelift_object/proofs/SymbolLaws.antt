@@ -1,8 +1,8 @@
 -- One more definition among the symbols of a state.
-use Rattle.std.proofs.Common.{◌≡◌, ℕ, zero, suc, ◌++◌, ◌∷◌, List, [], true, false, map, Option, Some, None, refl, ap, sym, ◌∙◌, arith, eq-eqb, ◌≢◌}
+use Rattle.std.proofs.Common.{◌≡◌, ℕ, zero, suc, ◌++◌, ◌∷◌, List, [], true, false, cond, filter, ◌<◌, length, map, Option, Some, None, refl, ap, sym, ◌∙◌, arith, eq-eqb, ◌≢◌}
 use Rattle.std.proofs.lemmas.List.{append-nil}
 use Rattle.std.proofs.lemmas.List.Folds.{find-append}
-use Rattle.std.proofs.lemmas.List.Elements.{All-head, All-tail}
+use Rattle.std.proofs.lemmas.List.Elements.{All-head, All-tail, filter-append}
 use Rattle.std.specs.Prelude.{slice_get}
 use Rattle.std.specs.Option.{option_or}
 use Rattle.std.specs.List.{All}
@@ -15,10 +15,16 @@ use Rattle.cranelift_module.specs.declared.identifiers.FuncOrDataId.TheVariants.
 use Rattle.cranelift_module.specs.Rows.{FunctionRow, DataRow}
 use Rattle.cranelift_module.specs.Definitions.{Definition, size_of}
 use Rattle.cranelift_module.specs.LinkState.{LinkState}
-use Rattle.cranelift_module.specs.Refusal.{is_same_identifier, function_name}
+use Rattle.cranelift_module.specs.Refusal.{is_same_identifier, function_name, data_name}
+use Rattle.cranelift_module.specs.declared.reloc.ModuleReloc.{ModuleReloc}
+use Rattle.cranelift_module.specs.declared.reloc.ModuleRelocTarget.{ModuleRelocTarget}
+use Rattle.cranelift_module.specs.declared.reloc.ModuleRelocTarget.TheVariants.{User, LibCall, KnownSymbol, FunctionOffset}
+use Rattle.cranelift_module.specs.Texts.{GoesToUser, IsUser}
+use Rattle.cranelift_object.specs.Kept.{IsDeclared}
+use Rattle.cranelift_object.proofs.FirstCause.{row_at}
 use Rattle.cranelift_object.specs.Settings.{Settings}
 use Rattle.cranelift_object.specs.Placing.{Placed}
-use Rattle.cranelift_object.specs.Targets.{extras, targets}
+use Rattle.cranelift_object.specs.Targets.{extras, targets, target_of, is_extra}
 use Rattle.cranelift_object.specs.Linked.{defined_at, identifier_symbol, function_symbol, data_symbol, symbols_of, named_symbol}
 
 -- -- where an identifier is defined
@@ -27,12 +33,13 @@ option_or_none : {A : Type 0} (o : Option A) → option_or o None ≡ o
 option_or_none None = refl
 option_or_none (Some x) = refl
 
-same_function : (k : ℕ) → is_same_identifier (Func k) (Func k) ≡ true
-same_function k = eq-eqb k k refl
+same_itself : (id : FuncOrDataId) → is_same_identifier id id ≡ true
+same_itself (Func k) = eq-eqb k k refl
+same_itself (Data k) = eq-eqb k k refl
 
-pub defined_here : (ps : List Placed) (p : Placed) (k : ℕ) → p.definition.identifier ≡ Func k → defined_at ps (Func k) ≡ None → defined_at (ps ++ p ∷ []) (Func k) ≡ Some p
-defined_here ps p k e none =
-    find-append (λ (q : Placed). is_same_identifier (Func k) q.definition.identifier) ps (p ∷ []) ∙ (rw (none, e, same_function k) refl)
+pub defined_here : (ps : List Placed) (p : Placed) (id : FuncOrDataId) → p.definition.identifier ≡ id → defined_at ps id ≡ None → defined_at (ps ++ p ∷ []) id ≡ Some p
+defined_here ps p id e none =
+    find-append (λ (q : Placed). is_same_identifier id q.definition.identifier) ps (p ∷ []) ∙ (rw (none, e, same_itself id) refl)
 
 pub defined_elsewhere : (ps : List Placed) (p : Placed) (id : FuncOrDataId) → is_same_identifier id p.definition.identifier ≡ false → defined_at (ps ++ p ∷ []) id ≡ defined_at ps id
 defined_elsewhere ps p id e =
@@ -40,14 +47,31 @@ defined_elsewhere ps p id e =
 
 -- -- symbols of identifiers
 
-pub symbol_here : (s : LinkState) (ps : List Placed) (p : Placed) (k : ℕ) (row : FunctionRow) → slice_get s.functions k ≡ Some row → p.definition.identifier ≡ Func k → defined_at ps (Func k) ≡ None
-    → identifier_symbol s (ps ++ p ∷ []) (Func k) ≡ defined_symbol p.section p.offset (size_of p.definition.contents) (identifier_symbol s ps (Func k))
-symbol_here s ps p k row declared e none =
-    let now : Option Placed → Symbol = named_symbol (function_name row k) row.linkage kind.Text in
+function_here : (s : LinkState) (ps : List Placed) (p : Placed) (k : ℕ) → k < length s.functions → p.definition.identifier ≡ Func k → defined_at ps (Func k) ≡ None
+    → function_symbol (ps ++ p ∷ []) k (slice_get s.functions k) ≡ defined_symbol p.section p.offset (size_of p.definition.contents) (function_symbol ps k (slice_get s.functions k))
+function_here s ps p k below e none =
+    let row = row_at s.functions k below in
+    let now : Option Placed → Symbol = named_symbol (function_name row.0 k) row.0.linkage kind.Text in
     let change : Symbol → Symbol = defined_symbol p.section p.offset (size_of p.definition.contents) in
-    let before : now (defined_at (ps ++ p ∷ []) (Func k)) ≡ now (Some p) = ap now (defined_here ps p k e none) in
+    let before : now (defined_at (ps ++ p ∷ []) (Func k)) ≡ now (Some p) = ap now (defined_here ps p (Func k) e none) in
     let after : now (Some p) ≡ change (now (defined_at ps (Func k))) = ap (λ (at : Option Placed). change (now at)) (sym none) in
-    ap (function_symbol (ps ++ p ∷ []) k) declared ∙ before ∙ after ∙ ap (λ (r : Option FunctionRow). change (function_symbol ps k r)) (sym declared)
+    ap (function_symbol (ps ++ p ∷ []) k) row.1 ∙ before ∙ after ∙ ap (λ (r : Option FunctionRow). change (function_symbol ps k r)) (sym row.1)
+
+data_here : (s : LinkState) (ps : List Placed) (p : Placed) (k : ℕ) → k < length s.objects → p.definition.identifier ≡ Data k → defined_at ps (Data k) ≡ None
+    → data_symbol (ps ++ p ∷ []) k (slice_get s.objects k) ≡ defined_symbol p.section p.offset (size_of p.definition.contents) (data_symbol ps k (slice_get s.objects k))
+data_here s ps p k below e none =
+    let row = row_at s.objects k below in
+    let now : Option Placed → Symbol = named_symbol (data_name row.0 k) row.0.linkage (cond row.0.tls kind.Tls kind.Data) in
+    let change : Symbol → Symbol = defined_symbol p.section p.offset (size_of p.definition.contents) in
+    let before : now (defined_at (ps ++ p ∷ []) (Data k)) ≡ now (Some p) = ap now (defined_here ps p (Data k) e none) in
+    let after : now (Some p) ≡ change (now (defined_at ps (Data k))) = ap (λ (at : Option Placed). change (now at)) (sym none) in
+    ap (data_symbol (ps ++ p ∷ []) k) row.1 ∙ before ∙ after ∙ ap (λ (r : Option DataRow). change (data_symbol ps k r)) (sym row.1)
+
+-- the symbol of a declared identifier that the last definition defines
+pub symbol_here : (s : LinkState) (ps : List Placed) (p : Placed) (id : FuncOrDataId) → IsDeclared (length s.functions) (length s.objects) id → p.definition.identifier ≡ id → defined_at ps id ≡ None
+    → identifier_symbol s (ps ++ p ∷ []) id ≡ defined_symbol p.section p.offset (size_of p.definition.contents) (identifier_symbol s ps id)
+symbol_here s ps p (Func k) declared e none = function_here s ps p k declared e none
+symbol_here s ps p (Data k) declared e none = data_here s ps p k declared e none
 
 function_elsewhere : (s : LinkState) (ps : List Placed) (p : Placed) (k : ℕ) (row : Option FunctionRow) → is_same_identifier (Func k) p.definition.identifier ≡ false → function_symbol (ps ++ p ∷ []) k row ≡ function_symbol ps k row
 function_elsewhere s ps p k None e = refl
@@ -75,24 +99,40 @@ changed_map f g change (y ∷ xs) (suc r) x at here others =
     rw (others 0 y refl (λ q. absurd (omega arith)), changed_map f g change xs r x at here (λ i z e n. others (suc i) z e (λ q. n (omega arith)))) refl
 
 -- the symbols of identifiers with one more definition
-pub identifiers_changed : (s : LinkState) (ps : List Placed) (p : Placed) (k r : ℕ) (row : FunctionRow) → slice_get s.functions k ≡ Some row → p.definition.identifier ≡ Func k → defined_at ps (Func k) ≡ None → slice_get s.created r ≡ Some (Func k)
-    → ((i : ℕ) (y : FuncOrDataId) → slice_get s.created i ≡ Some y → i ≢ r → is_same_identifier y (Func k) ≡ false)
+pub identifiers_changed : (s : LinkState) (ps : List Placed) (p : Placed) (id : FuncOrDataId) (r : ℕ) → IsDeclared (length s.functions) (length s.objects) id → p.definition.identifier ≡ id → defined_at ps id ≡ None → slice_get s.created r ≡ Some id
+    → ((i : ℕ) (y : FuncOrDataId) → slice_get s.created i ≡ Some y → i ≢ r → is_same_identifier y id ≡ false)
     → map (identifier_symbol s (ps ++ p ∷ [])) s.created ≡ changed_at r (defined_symbol p.section p.offset (size_of p.definition.contents)) (map (identifier_symbol s ps) s.created)
-identifiers_changed s ps p k r row declared e none at apart =
-    changed_map (identifier_symbol s ps) (identifier_symbol s (ps ++ p ∷ [])) (defined_symbol p.section p.offset (size_of p.definition.contents)) s.created r (Func k) at (symbol_here s ps p k row declared e none)
+identifiers_changed s ps p id r declared e none at apart =
+    changed_map (identifier_symbol s ps) (identifier_symbol s (ps ++ p ∷ [])) (defined_symbol p.section p.offset (size_of p.definition.contents)) s.created r id at (symbol_here s ps p id declared e none)
     (λ i y found ne. symbol_elsewhere s ps p y (rw e (apart i y found ne)))
 
--- -- relocations that there are not add no symbols
+-- -- relocations to a namespace and an index add no symbols
 
-pub no_targets : (settings : Settings) (s : LinkState) (ds : List Definition) → All (λ (d : Definition). d.relocs ≡ []) ds → targets settings s ds ≡ []
-no_targets settings s [] h = refl
-no_targets settings s (d ∷ ds) h =
-    rw (All-head (λ (x : Definition). x.relocs ≡ []) d ds h, no_targets settings s ds (All-tail (λ (x : Definition). x.relocs ≡ []) d ds h)) refl
+-- a definition whose relocations go to a namespace and an index
+abbrev pub IsPlain : Definition → Type 0
+IsPlain d = All GoesToUser d.relocs
 
-pub no_extras : (settings : Settings) (s : LinkState) → All (λ (d : Definition). d.relocs ≡ []) s.definitions → extras settings s ≡ []
+user_is_none : (settings : Settings) (s : LinkState) (t : ModuleRelocTarget) → IsUser t → is_extra (target_of settings s t) ≡ false
+user_is_none settings s (User namespace index) h = refl
+user_is_none settings s (LibCall call) h = absurd h
+user_is_none settings s (KnownSymbol symbol) h = absurd h
+user_is_none settings s (FunctionOffset function offset) h = absurd h
+
+none_of_relocs : (settings : Settings) (s : LinkState) (rs : List ModuleReloc) → All GoesToUser rs → filter is_extra (map (λ (r : ModuleReloc). target_of settings s r.name) rs) ≡ []
+none_of_relocs settings s [] all = refl
+none_of_relocs settings s (r ∷ rs) all =
+    rw (user_is_none settings s r.name (All-head GoesToUser r rs all)) (none_of_relocs settings s rs (All-tail GoesToUser r rs all))
+
+none_of_definitions : (settings : Settings) (s : LinkState) (ds : List Definition) → All IsPlain ds → filter is_extra (targets settings s ds) ≡ []
+none_of_definitions settings s [] all = refl
+none_of_definitions settings s (d ∷ ds) all =
+    filter-append is_extra (map (λ (r : ModuleReloc). target_of settings s r.name) d.relocs) (targets settings s ds)
+    ∙ (rw (none_of_relocs settings s d.relocs (All-head IsPlain d ds all)) (none_of_definitions settings s ds (All-tail IsPlain d ds all)))
+
+pub no_extras : (settings : Settings) (s : LinkState) → All IsPlain s.definitions → extras settings s ≡ []
 unfolding extras moments
-no_extras settings s h = rw (no_targets settings s s.definitions h) refl
+no_extras settings s h = rw (none_of_definitions settings s s.definitions h) refl
 
-pub symbols_plain : (settings : Settings) (s : LinkState) (ps : List Placed) → All (λ (d : Definition). d.relocs ≡ []) s.definitions → symbols_of settings s ps ≡ file_symbol settings.file_name ∷ map (identifier_symbol s ps) s.created
+pub symbols_plain : (settings : Settings) (s : LinkState) (ps : List Placed) → All IsPlain s.definitions → symbols_of settings s ps ≡ file_symbol settings.file_name ∷ map (identifier_symbol s ps) s.created
 unfolding symbols_of
 symbols_plain settings s ps h = rw (no_extras settings s h) (append-nil (file_symbol settings.file_name ∷ map (identifier_symbol s ps) s.created))

@@ -1,27 +1,47 @@
--- What holds of every module that can be made: functions alone are defined, by bytes alone.
-use Rattle.std.specs.Prelude.{◌≡◌, ℕ, ◌+◌, ◌<◌, ◌≤◌, ◌^◌, Bool, false, List, [], ◌∷◌, length, slice_index_or, Option, Some, None}
+-- What holds of every module that can be made.
+use Rattle.std.specs.Prelude.{◌≡◌, ℕ, ◌+◌, ◌<◌, ◌≤◌, ◌^◌, Bool, false, List, [], ◌∷◌, length, slice_index_or, unwrap_or, Option, Some, None}
 use Rattle.std.specs.List.{All, list_any}
 use Rattle.ir_core.specs.Moments.{Moment, moments}
 use Rattle.ir_core.specs.declared.target.BinaryFormat.TheVariants.{Elf}
 use Rattle.cranelift_module.specs.declared.identifiers.FuncOrDataId.{FuncOrDataId}
 use Rattle.cranelift_module.specs.declared.identifiers.FuncOrDataId.TheVariants.{Func, Data}
 use Rattle.cranelift_module.specs.Rows.{FunctionRow, DataRow}
-use Rattle.cranelift_module.specs.Definitions.{Definition}
-use Rattle.cranelift_module.specs.Refusal.{is_same_identifier, zero_byte}
-use Rattle.cranelift_object.specs.Opened.{BuilderData, OpenModule, function_definition}
+use Rattle.ir_core.specs.Target.{Target}
+use Rattle.cranelift_module.specs.Call.{Contents, bytes, zeros}
+use Rattle.cranelift_module.specs.Definitions.{Definition, size_of}
+use Rattle.cranelift_module.specs.Texts.{GoesToUser}
+use Rattle.cranelift_module.specs.Refusal.{is_same_identifier, zero_byte, bad_reloc, is_bad_align}
+use Rattle.cranelift_object.specs.Opened.{BuilderData, OpenModule}
 
 -- what holds of every builder
 pub record IsBegun (b : BuilderData) : Type 0 where
   pub format : b.target.triple.binary_format ≡ Elf
   pub file_name : zero_byte b.settings.file_name ≡ None
 
--- the definition of a declared function by bytes alone
-pub record IsBody (count : ℕ) (d : Definition) : Type 0 where
-  pub function : ℕ
-  pub contents : List ℕ
-  pub declared : function < count
-  pub small : length contents < 2 ^ 63
-  pub is : d ≡ function_definition function contents
+-- one of so many functions, or of so many data objects
+abbrev pub IsDeclared : ℕ → ℕ → FuncOrDataId → Type 0
+IsDeclared functions objects (Func k) = k < functions
+IsDeclared functions objects (Data k) = k < objects
+
+-- contents of bytes
+abbrev pub AreBytes : Contents → Type 0
+AreBytes (bytes xs) = Unit {0}
+AreBytes (zeros n) = ⊥
+
+-- a function is defined by bytes, in no section of a text, and without the mark of use
+abbrev pub IsPlainBody : FuncOrDataId → Contents → Option (List ℕ) → Bool → Type 0
+IsPlainBody (Func k) contents section used = AreBytes contents × (section ≡ None) × (used ≡ false)
+IsPlainBody (Data k) contents section used = Unit {0}
+
+-- a definition of one of so many functions or data objects that was accepted
+pub record IsBody (target : Target) (functions objects : ℕ) (d : Definition) : Type 0 where
+  pub declared : IsDeclared functions objects d.identifier
+  pub sized : size_of d.contents < 2 ^ 64
+  pub aligned : is_bad_align d.align ≡ false
+  pub judged : bad_reloc target d.contents d.relocs ≡ None
+  pub targets : All GoesToUser d.relocs
+  pub text : zero_byte (unwrap_or d.section []) ≡ None
+  pub plain : IsPlainBody d.identifier d.contents d.section d.used
 
 -- a name has no zero byte
 abbrev pub IsName : Option (List ℕ) → Type 0
@@ -50,7 +70,7 @@ pub record IsModule (o : OpenModule) (marks : Marks) : Type 0 where
   pub few : length o.state.functions ≤ 4294967295
   pub few_objects : length o.state.objects ≤ 4294967295
   pub order : IsNumbered 0 0 o.state.created (length o.state.functions) (length o.state.objects)
-  pub bodies : All (IsBody (length o.state.functions)) o.state.definitions
+  pub bodies : All (IsBody o.state.target (length o.state.functions) (length o.state.objects)) o.state.definitions
   pub apart : All IsFirst (moments o.state.definitions)
   pub marked : length marks.functions ≡ length o.state.functions
   pub marking : (k : ℕ) → slice_index_or marks.functions k false ≡ list_any (λ (d : Definition). is_same_identifier (Func k) d.identifier) o.state.definitions

@@ -1,10 +1,7 @@
 -- What contracts see of a builder, an open module and a finished product.
-use Rattle.std.specs.Prelude.{ℕ, Bool, false, List, [], None}
+use Rattle.std.specs.Prelude.{ℕ, Bool, List}
 use Rattle.ir_core.specs.Target.{Target}
 use Rattle.object_core.specs.Object.{ObjectData}
-use Rattle.cranelift_module.specs.declared.identifiers.FuncOrDataId.TheVariants.{Func}
-use Rattle.cranelift_module.specs.Call.{bytes}
-use Rattle.cranelift_module.specs.Definitions.{Definition}
 use Rattle.cranelift_module.specs.LinkState.{LinkState}
 use Rattle.cranelift_object.specs.Settings.{Settings}
 
@@ -23,7 +20,3 @@ pub record ProductData : Type 0 where
   pub object : ObjectData
   pub functions : List (ℕ × Bool)
   pub data_objects : List (ℕ × Bool)
-
--- the definition of a function by its bytes alone
-abbrev pub function_definition : ℕ → List ℕ → Definition
-function_definition function contents = record { identifier = Func function; contents = bytes contents; align = 1; relocs = []; section = None; used = false; writable = false }

@@ -29,7 +29,7 @@ partial_with settings s classes ds =
       build_version = None;
       sections = sections_from settings s 0 (sections_used classes) (placed_of settings s ds);
       symbols = file_symbol settings.file_name ∷ map (identifier_symbol s (placed_of settings s ds)) s.created;
-      content_sum = sum_by (λ d. room_of d + align_of s d) ds;
+      content_sum = sum_by (λ d. room_of s d + align_of s d) ds;
     }
 
 -- the object of a state with its first definitions alone

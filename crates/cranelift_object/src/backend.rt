@@ -1,19 +1,21 @@
 //! The module that makes an object file.
 
-ghost use Rattle.std.specs.Prelude.{◌≡◌, ◌≢◌, refl, ◌<◌, ◌++◌, ◌∷◌, ℕ, [], false, vec_len, vec_capacity, None, Some, length, IfOk, IfErr, OnOk, OnErr};
+ghost use Rattle.std.specs.Prelude.{◌≡◌, ◌≢◌, refl, ◌<◌, ◌++◌, ◌∷◌, ℕ, [], false, vec_len, vec_capacity, None, Some, length, slice_get, IfOk, IfErr, OnOk, OnErr};
 ghost use Rattle.std.proofs.Common.{◌∙◌};
 ghost use Rattle.std.specs.List.{position_from};
 ghost use Rattle.cranelift_module.specs.LinkState.{LinkState, state_of, is_function_named, is_data_named};
 ghost use Rattle.cranelift_module.specs.IsCall.{IsCall};
 ghost use Rattle.cranelift_module.specs.Call as calls;
 ghost use Rattle.cranelift_module.specs.Refusal.{Tells, is_defined};
+ghost use Rattle.cranelift_module.specs.Definitions.{is_writable, is_thread_local};
 ghost use Rattle.cranelift_module.specs.declared.identifiers.FuncOrDataId.TheVariants.{Func, Data};
 
 use crate::ObjectBuilder;
-use crate::definition::Definition;
+use crate::definition::{Definition, bytes_in, pointers_of};
 use cranelift_module::{
-    DataId, FuncId, FuncOrDataId, Linkage, Module, ModuleDeclarations, ModuleReloc, ModuleResult,
-    check_definable, check_no_zero_byte,
+    DataDescription, DataId, FuncId, FuncOrDataId, Linkage, Module, ModuleDeclarations,
+    ModuleReloc, ModuleResult, check_data_definable, check_definable, check_no_zero_byte,
+    check_relocs,
 };
 use ir_core::{Signature, TargetIsa};
 use std::marker::Model;
@@ -78,6 +80,26 @@ impl ObjectModule {
             .get(object.as_u32() as usize)
             .copied()
             .unwrap_or(false)
+    }
+
+    // Whether a data object is writable by its declarations so far.
+    pub(crate) fn is_writable(&self, object: DataId) -> bool
+        ensures { result ≡ is_writable (slice_get (self.now).state.objects object) }
+    {
+        match self.declarations.data(object) {
+            Some(declaration) => declaration.writable(),
+            None => false,
+        }
+    }
+
+    // Whether a data object is thread-local.
+    pub(crate) fn is_thread_local(&self, object: DataId) -> bool
+        ensures { result ≡ is_thread_local (slice_get (self.now).state.objects object) }
+    {
+        match self.declarations.data(object) {
+            Some(declaration) => declaration.tls(),
+            None => false,
+        }
     }
 }
 
@@ -179,7 +201,7 @@ impl Module for ObjectModule {
         func_id: FuncId,
         alignment: u64,
         bytes: &[u8],
-        _relocs: &[ModuleReloc],
+        relocs: &[ModuleReloc],
     ) -> ModuleResult<()> {
         let alloc = self.builder.alloc();
         let defined = self.is_defined(func_id);
@@ -192,9 +214,36 @@ impl Module for ObjectModule {
         ) {
             return Err(error);
         }
-        let definition = Definition::of_function(alloc, func_id, bytes)?;
+        if let Err(error) = check_relocs(self.builder.isa(), Some(bytes.len()), relocs) {
+            return Err(error);
+        }
+        let definition = Definition::of_function(alloc, func_id, alignment, bytes, relocs)?;
         self.definitions.push(definition)?;
         self.defined[func_id.as_u32() as usize] = true;
+        Ok(())
+    }
+
+    #[tactic(auto, unfolding(cranelift_module::specs::LinkState::step, cranelift_module::specs::Refusal::refusal))]
+    fn define_data(&mut self, data_id: DataId, desc: &DataDescription) -> ModuleResult<()> {
+        let alloc = self.builder.alloc();
+        let defined = self.is_object_defined(data_id);
+        if let Err(error) = check_data_definable(
+            alloc,
+            &self.declarations,
+            defined,
+            data_id,
+            desc,
+        ) {
+            return Err(error);
+        }
+        let relocs = pointers_of(alloc, desc)?;
+        if let Err(error) = check_relocs(self.builder.isa(), bytes_in(desc.init()), &relocs) {
+            return Err(error);
+        }
+        let writable = self.is_writable(data_id);
+        let definition = Definition::of_data(alloc, data_id, desc, relocs, writable)?;
+        self.definitions.push(definition)?;
+        self.defined_objects[data_id.as_u32() as usize] = true;
         Ok(())
     }
 }

@@ -110,6 +110,12 @@ impl ObjectBuilder {
     {
         self.function_sections
     }
+
+    pub(crate) fn data_sections(&self) -> bool
+        ensures { result ≡ ((self.now).settings).data_sections }
+    {
+        self.data_sections
+    }
 }
 
 fn is_supported(architecture: Architecture, format: BinaryFormat) -> bool

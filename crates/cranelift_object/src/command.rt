@@ -245,6 +245,6 @@ fn make_call<M: Module>(backend: &mut M, command: &Command) -> ModuleResult<()>
             bytes,
             relocs,
         } => backend.define_function_bytes(*id, *align, bytes, relocs),
-        Command::DefineData { id: _, desc: _ } => unreachable!(),
+        Command::DefineData { id, desc } => backend.define_data(*id, desc),
     }
 }

@@ -1,27 +1,33 @@
 //! From a module to its object.
 
-ghost use Rattle.std.specs.Prelude.{◌≡◌, ◌<◌, ◌+◌, ◌++◌, [], length, map, take, Some, None, IfOk, IfErr, OnOk};
-ghost use Rattle.std.specs.List.{list_any, enumerate_from};
-ghost use Rattle.std.specs.Option.{option_or};
-ghost use Rattle.cranelift_module.specs.Refusal.{Tells, is_defined, first_cause};
-ghost use Rattle.cranelift_object.specs.EndCause.{end_cause, first_missing_function, first_missing_data, function_missing, data_missing};
-ghost use Rattle.cranelift_object.specs.Linked.{object_of, identifier_symbol, function_symbol, data_symbol, scope_of, file_flags, turns_compression_off};
+ghost use Rattle.std.specs.Prelude.{◌≡◌, ℕ, ◌<◌, ◌^◌, ◌+◌, ◌++◌, [], true, false, length, map, take, slice_get, option_map, Some, None, IfOk, IfErr, OnOk};
+ghost use Rattle.std.specs.List.{All, list_any};
+ghost use Rattle.std.specs.Int.{is_power_of_two};
+ghost use Rattle.cranelift_module.specs.Refusal.{Tells, is_defined};
+ghost use Rattle.cranelift_module.specs.declared.reloc.ModuleRelocTarget.TheVariants.{FunctionOffset};
+ghost use Rattle.cranelift_object.specs.EndCause.{end_cause, first_missing_function, first_missing_data, first_bad_reference, first_bad_target, target_cause, is_declared, IsDeclaredTarget, function_missing, data_missing};
+ghost use Rattle.cranelift_object.specs.Targets.{target_of, identifier};
+ghost use Rattle.cranelift_object.specs.SectionClass.{section_class, unused_class, has_own_section, standard_section, data_section, initialized_section, custom_kind, is_counted};
+ghost use Rattle.cranelift_object.specs.Linked.{object_of, identifier_symbol, function_symbol, data_symbol, scope_of, file_flags, turns_compression_off, object_relocation};
 ghost use Rattle.ir_core.specs.declared.target.BinaryFormat.TheVariants.{Elf};
-ghost use Rattle.object_core.specs.Appending.{with_symbol};
+ghost use Rattle.object_core.specs.Appending.{with_symbol, IsUndefined, is_unstored, next_offset};
 ghost use Rattle.cranelift_module.specs.declared.identifiers.FuncOrDataId.TheVariants.{Func, Data};
-ghost use Rattle.cranelift_object.specs.Product.{begun_object, function_marks, data_marks, product_of, with_function_section, function_section};
+ghost use Rattle.cranelift_object.specs.Kept.{IsDeclared};
+ghost use Rattle.cranelift_object.specs.Product.{begun_object, function_marks, data_marks, AreMarks, symbol_number, product_of, with_class, class_place, with_symbol_contents, with_relocations};
 ghost use Rattle.cranelift_object.specs.Partial.{partial};
+ghost use Rattle.cranelift_object.specs.Placing.{align_of};
 ghost use Rattle.cranelift_object.specs.Marking.{with_symbols, marks_of_functions, marks_of_objects};
 
+use crate::definition::Definition;
 use crate::{ObjectModule, ObjectProduct};
 use cranelift_module::{
-    DataDeclaration, DataId, FuncId, FuncOrDataId, FunctionDeclaration, Linkage, Module,
-    ModuleError, ModuleResult,
+    DataDeclaration, DataId, FuncId, FuncOrDataId, FunctionDeclaration, Init, Linkage, Module,
+    ModuleError, ModuleReloc, ModuleRelocTarget, ModuleResult,
 };
-use ir_core::{Architecture, Flag, TargetIsa};
+use ir_core::{Architecture, Flag, TargetIsa, elf_number};
 use object_core::{
-    Object, SectionId, StandardSection, Symbol, SymbolId, SymbolKind, SymbolName, SymbolScope,
-    SymbolSection,
+    Object, Relocation, RelocationFlags, SectionId, SectionKind, StandardSection, Symbol, SymbolId,
+    SymbolKind, SymbolName, SymbolScope, SymbolSection,
 };
 use std::alloc::{AllocError, Global};
 
@@ -33,8 +39,8 @@ pub(crate) struct Symbols {
 }
 
 impl ObjectModule {
-    /// Makes the object of all that was declared and defined. A function, and then a data object, that wants a
-    /// definition and has none is refused; the module is given up.
+    /// Makes the object of all that was declared and defined. A function, then a data object, that wants a
+    /// definition and has none is refused, and then a relocation to what isn't declared; the module is given up.
     pub fn finish(self) -> ModuleResult<ObjectProduct>
         ensures ok { IfOk result (λ product. product ≡ product_of self.settings self.state) }
         ensures none { OnOk result (end_cause self.state ≡ None) }
@@ -45,11 +51,12 @@ impl ObjectModule {
         }
         let mut object = self.begun_object()?;
         let symbols = self.add_symbols(&mut object)?;
-        self.add_definitions(&mut object, &symbols.functions)?;
+        self.add_definitions(&mut object, &symbols)?;
         Ok(ObjectProduct::new(object, symbols.functions, symbols.objects))
     }
 
-    // Refuses the first function, or else the first data object, that wants a definition and has none.
+    // Refuses the first function, or else the first data object, that wants a definition and has none, or else the
+    // first relocation whose target can't be had.
     fn check_finished(&self) -> ModuleResult<()>
         ensures none { OnOk result (end_cause (self.now).state ≡ None) }
         ensures cause { IfErr result (λ e. Tells e (end_cause (self.now).state)) }
@@ -57,12 +64,14 @@ impl ObjectModule {
         if let Err(error) = self.check_functions() {
             return Err(error);
         }
-        self.check_objects()
+        if let Err(error) = self.check_objects() {
+            return Err(error);
+        }
+        self.check_references()
     }
 
-    // Refuses the first function that wants a definition and has none. Behind these stand data objects alone.
+    // Refuses the first function that wants a definition and has none.
     fn check_functions(&self) -> ModuleResult<()>
-        ensures parts { end_cause (self.now).state ≡ option_or (first_missing_function (self.now).state) (first_missing_data (self.now).state) }
         ensures none { OnOk result (first_missing_function (self.now).state ≡ None) }
         ensures cause { IfErr result (λ e. Tells e (first_missing_function (self.now).state)) }
     {
@@ -85,6 +94,83 @@ impl ObjectModule {
             }
         }
         Ok(())
+    }
+
+    // Refuses the first relocation of a definition whose target can't be had.
+    fn check_references(&self) -> ModuleResult<()>
+        ensures none { OnOk result (first_bad_reference (self.now).state ≡ None) }
+        ensures cause { IfErr result (λ e. Tells e (first_bad_reference (self.now).state)) }
+    {
+        for number in 0..self.definitions.len() {
+            if let Err(error) = self.check_targets(self.definitions[number].relocs()) {
+                return Err(error);
+            }
+        }
+        Ok(())
+    }
+
+    // Refuses the first of these relocations whose target can't be had.
+    fn check_targets(&self, relocs: &[ModuleReloc]) -> ModuleResult<()>
+        ensures none { OnOk result (first_bad_target (self.now).state relocs.now ≡ None) }
+        ensures cause { IfErr result (λ e. Tells e (first_bad_target (self.now).state relocs.now)) }
+    {
+        for reloc in relocs {
+            if let Err(error) = self.check_target(reloc.name) {
+                return Err(error);
+            }
+        }
+        Ok(())
+    }
+
+    // Refuses a target that isn't declared, and a label in a function that has no definition.
+    fn check_target(&self, target: ModuleRelocTarget) -> ModuleResult<()>
+        ensures none { OnOk result (target_cause (self.now).state target ≡ None) }
+        ensures cause { IfErr result (λ e. Tells e (target_cause (self.now).state target)) }
+    {
+        match target {
+            ModuleRelocTarget::User { namespace, index } => {
+                if !self.is_declared(namespace, index) {
+                    let text = target.to_string(self.builder.alloc())?;
+                    return Err(ModuleError::Undeclared(text));
+                }
+                Ok(())
+            }
+            ModuleRelocTarget::FunctionOffset(function, _) => self.check_label(target, function),
+            ModuleRelocTarget::LibCall(_) | ModuleRelocTarget::KnownSymbol(_) => Ok(()),
+        }
+    }
+
+    // Refuses a label in a function that isn't declared, or has no definition.
+    fn check_label(&self, target: ModuleRelocTarget, function: FuncId) -> ModuleResult<()>
+        ensures none { (offset : ℕ) → target ≡ FunctionOffset function offset → OnOk result (target_cause (self.now).state target ≡ None) }
+        ensures cause { (offset : ℕ) → target ≡ FunctionOffset function offset → IfErr result (λ e. Tells e (target_cause (self.now).state target)) }
+    {
+        let alloc = self.builder.alloc();
+        let Some(declaration) = self.declarations.function(function) else {
+            let text = target.to_string(alloc)?;
+            return Err(ModuleError::Undeclared(text));
+        };
+        if !self.is_defined(function) {
+            let name = declaration
+                .linkage_name(alloc, function)?
+                .into_owned(alloc)?;
+            return Err(ModuleError::MissingDefinition(name));
+        }
+        Ok(())
+    }
+
+    // Whether a function of namespace 0, or a data object of namespace 1, is declared.
+    fn is_declared(&self, namespace: u32, index: u32) -> bool
+        ensures { result ≡ is_declared (self.now).state namespace index }
+    {
+        match namespace {
+            0 => self
+                .declarations
+                .function(FuncId::from_u32(index))
+                .is_some(),
+            1 => self.declarations.data(DataId::from_u32(index)).is_some(),
+            _ => false,
+        }
     }
 
     // Refuses a function that wants a definition and has none.
@@ -203,54 +289,271 @@ impl ObjectModule {
         Ok((symbol, self.is_object_defined(id)))
     }
 
-    // Adds the contents of each definition, and defines its symbol there.
-    fn add_definitions(
-        &self,
-        object: &mut Object,
-        functions: &[(SymbolId, bool)],
-    ) -> Result<(), AllocError>
+    // Adds the contents of each definition, defines its symbol there, and adds its relocations.
+    fn add_definitions(&self, object: &mut Object, symbols: &Symbols) -> Result<(), AllocError>
         requires begun { object.old ≡ partial (self.now).settings (self.now).state [] }
-        requires functions { functions.now ≡ function_marks (self.now).state }
+        requires symbols { AreMarks (self.now).state symbols.now.functions.items symbols.now.objects.items }
+        requires targets { first_bad_reference (self.now).state ≡ None }
         ensures { OnOk result (object.new ≡ object_of (self.now).settings (self.now).state) }
     {
         for number in 0..self.definitions.len() {
-            self.add_definition(object, functions, number)?;
+            self.add_definition(object, symbols, number)?;
         }
         Ok(())
     }
 
-    // Adds the contents of the definition of this number, behind those before it.
+    // Adds the contents of the definition of this number, behind those before it, and its relocations.
     fn add_definition(
         &self,
         object: &mut Object,
-        functions: &[(SymbolId, bool)],
+        symbols: &Symbols,
         number: usize,
     ) -> Result<(), AllocError>
         requires number { number < length (self.now).state.definitions }
         requires before { object.old ≡ partial (self.now).settings (self.now).state (take number (self.now).state.definitions) }
-        requires functions { functions.now ≡ function_marks (self.now).state }
+        requires symbols { AreMarks (self.now).state symbols.now.functions.items symbols.now.objects.items }
+        requires targets { first_bad_reference (self.now).state ≡ None }
         ensures { OnOk result (object.new ≡ partial (self.now).settings (self.now).state (take (number + 1) (self.now).state.definitions)) }
     {
         let definition = &self.definitions[number];
-        let function = definition.function().as_u32() as usize;
-        let contents = definition.contents();
-        let align = self.builder.isa().symbol_alignment();
-        let section = self.section_of(object)?;
-        object.add_symbol_data(functions[function].0, section, contents, align)?;
+        let section = self.open_section(object, definition)?;
+        let symbol = self.symbol_of(symbols, definition.identifier());
+        let align = self.alignment_of(definition);
+        let offset = add_contents(object, symbol, section, definition, align)?;
+        self.add_relocations(object, symbols, section, offset, definition.relocs())?;
         Ok(())
     }
 
-    // The section of a function: one of its own, or the standard one.
-    fn section_of(&self, object: &mut Object) -> Result<SectionId, AllocError>
-        requires { object.old.format ≡ Elf }
-        ensures opened { OnOk result (object.new ≡ with_function_section (self.now).settings object.old) }
-        ensures id { IfOk result (λ id. id ≡ function_section (self.now).settings object.old) }
+    // The alignment at which a definition stands, in bytes: the one asked for, or the target's where that is greater.
+    fn alignment_of(&self, definition: &Definition) -> u64
+        ensures { result ≡ align_of (self.now).state definition.now }
     {
-        if self.builder.function_sections() {
-            object.add_subsection(StandardSection::Text)
-        } else {
-            object.section_id(StandardSection::Text)
+        definition
+            .align()
+            .max(self.builder.isa().symbol_alignment())
+    }
+
+    // Sees to it that there is a section for a definition.
+    fn open_section(
+        &self,
+        object: &mut Object,
+        definition: &Definition,
+    ) -> Result<SectionId, AllocError>
+        requires format { object.old.format ≡ Elf }
+        requires used { (definition.now).used ≡ true → (section_class (self.now).settings (self.now).state definition.now).shared ≡ None }
+        ensures opened { OnOk result (object.new ≡ with_class object.old (section_class (self.now).settings (self.now).state definition.now)) }
+        ensures id { IfOk result (λ id. id ≡ class_place object.old (section_class (self.now).settings (self.now).state definition.now)) }
+    {
+        let section = self.add_section(object, definition)?;
+        if definition.used() {
+            object.set_retain(section);
         }
+        Ok(section)
+    }
+
+    // Sees to it that there is a section for a definition, without the mark that the linker keeps it.
+    fn add_section(
+        &self,
+        object: &mut Object,
+        definition: &Definition,
+    ) -> Result<SectionId, AllocError>
+        requires { object.old.format ≡ Elf }
+        ensures opened { OnOk result (object.new ≡ with_class object.old (unused_class (section_class (self.now).settings (self.now).state definition.now))) }
+        ensures id { IfOk result (λ id. id ≡ class_place object.old (section_class (self.now).settings (self.now).state definition.now)) }
+    {
+        if let Some(text) = definition.section() {
+            return object.add_section(&[], text.as_bytes(), custom_kind(definition), 0);
+        }
+        let standard = self.standard_section(definition);
+        if self.has_own_section(definition) {
+            object.add_subsection(standard)
+        } else {
+            object.section_id(standard)
+        }
+    }
+
+    // Whether a definition without a section text has a section of its own.
+    fn has_own_section(&self, definition: &Definition) -> bool
+        ensures { result ≡ has_own_section (self.now).settings definition.now (definition.now).identifier }
+    {
+        match definition.identifier() {
+            FuncOrDataId::Func(_) => self.builder.function_sections(),
+            FuncOrDataId::Data(_) => self.builder.data_sections() || definition.used(),
+        }
+    }
+
+    // The standard section of a definition.
+    fn standard_section(&self, definition: &Definition) -> StandardSection
+        ensures { result ≡ standard_section (self.now).state definition.now (definition.now).identifier }
+    {
+        match definition.identifier() {
+            FuncOrDataId::Func(_) => StandardSection::Text,
+            FuncOrDataId::Data(object) => data_section(self.is_thread_local(object), definition),
+        }
+    }
+
+    // The symbol of an identifier.
+    fn symbol_of(&self, symbols: &Symbols, id: FuncOrDataId) -> SymbolId
+        requires symbols { AreMarks (self.now).state symbols.now.functions.items symbols.now.objects.items }
+        requires declared { IsDeclared (length (self.now).state.functions) (length (self.now).state.objects) id }
+        ensures { result ≡ symbol_number (self.now).state id }
+    {
+        match id {
+            FuncOrDataId::Func(id) => self.symbol_of_function(symbols, id),
+            FuncOrDataId::Data(id) => self.symbol_of_object(symbols, id),
+        }
+    }
+
+    // The symbol of a function.
+    fn symbol_of_function(&self, symbols: &Symbols, id: FuncId) -> SymbolId
+        requires symbols { symbols.now.functions.items ≡ function_marks (self.now).state }
+        requires declared { id < length (self.now).state.functions }
+        ensures { result ≡ symbol_number (self.now).state (Func id) }
+    {
+        let functions = symbols.functions.as_slice();
+        functions[id.as_u32() as usize].0
+    }
+
+    // The symbol of a data object.
+    fn symbol_of_object(&self, symbols: &Symbols, id: DataId) -> SymbolId
+        requires symbols { symbols.now.objects.items ≡ data_marks (self.now).state }
+        requires declared { id < length (self.now).state.objects }
+        ensures { result ≡ symbol_number (self.now).state (Data id) }
+    {
+        let objects = symbols.objects.as_slice();
+        objects[id.as_u32() as usize].0
+    }
+
+    // Adds the relocations of a definition that stands at this offset of a section.
+    fn add_relocations(
+        &self,
+        object: &mut Object,
+        symbols: &Symbols,
+        section: SectionId,
+        offset: u128,
+        relocs: &[ModuleReloc],
+    ) -> Result<(), AllocError>
+        requires section { section < length object.old.sections }
+        requires symbols { AreMarks (self.now).state symbols.now.functions.items symbols.now.objects.items }
+        requires targets { All (IsDeclaredTarget (self.now).state) relocs.now }
+        requires offset { offset < 2 ^ 127 + 2 ^ 126 + 65536 }
+        ensures { OnOk result (object.new ≡ with_relocations object.old section (map (object_relocation (self.now).settings (self.now).state offset) relocs.now)) }
+    {
+        for reloc in relocs {
+            let relocation = self.relocation(symbols, offset, reloc)?;
+            object.add_relocation(section, relocation)?;
+        }
+        Ok(())
+    }
+
+    // The relocation of a definition that stands at this offset. Contents whose places have more than 64 bits want more
+    // memory than there is.
+    fn relocation(
+        &self,
+        symbols: &Symbols,
+        offset: u128,
+        reloc: &ModuleReloc,
+    ) -> Result<Relocation, AllocError>
+        requires symbols { AreMarks (self.now).state symbols.now.functions.items symbols.now.objects.items }
+        requires target { IsDeclaredTarget (self.now).state reloc.now }
+        requires offset { offset < 2 ^ 127 + 2 ^ 126 + 65536 }
+        ensures { IfOk result (λ r. r ≡ object_relocation (self.now).settings (self.now).state offset reloc.now) }
+    {
+        let Ok(place) = u64::try_from(offset + u128::from(reloc.offset)) else {
+            return Err(AllocError);
+        };
+        let architecture = self.builder.isa().triple().architecture;
+        Ok(Relocation {
+            offset: place,
+            symbol: self.symbol_of(symbols, self.target_identifier(reloc)),
+            flags: RelocationFlags::Elf {
+                r_type: elf_number(architecture, reloc.kind).unwrap_or(0),
+            },
+            addend: reloc.addend,
+        })
+    }
+
+    // The identifier that a relocation goes to.
+    fn target_identifier(&self, reloc: &ModuleReloc) -> FuncOrDataId
+        requires { IsDeclaredTarget (self.now).state reloc.now }
+        ensures target { target_of (self.now).settings (self.now).state (reloc.now).name ≡ identifier result }
+        ensures declared { IsDeclared (length (self.now).state.functions) (length (self.now).state.objects) result }
+    {
+        match reloc.name {
+            ModuleRelocTarget::User {
+                namespace: 0,
+                index,
+            } => FuncOrDataId::Func(FuncId::from_u32(index)),
+            ModuleRelocTarget::User {
+                namespace: _,
+                index,
+            } => FuncOrDataId::Data(DataId::from_u32(index)),
+            _ => unreachable!(),
+        }
+    }
+}
+
+// Puts the contents of a definition behind those of its section, and its symbol there. The answer is their offset.
+fn add_contents(
+    object: &mut Object,
+    symbol: SymbolId,
+    section: SectionId,
+    definition: &Definition,
+    align: u64,
+) -> Result<u128, AllocError>
+    requires power { is_power_of_two align ≡ true }
+    requires symbol { IsUndefined object.old symbol }
+    requires section { option_map (is_unstored object.old.format) (slice_get object.old.sections section) ≡ Some (is_counted definition.now) }
+    requires sum { object.old.content_sum < 2 ^ 127 + 2 ^ 126 }
+    ensures offset { IfOk result (λ offset. offset ≡ next_offset object.old section align) }
+    ensures ok { OnOk result (object.new ≡ with_symbol_contents (is_counted definition.now) object.old symbol section (definition.now).contents align) }
+{
+    match definition.contents() {
+        Init::Uninitialized => object.add_symbol_data(symbol, section, &[], align),
+        Init::Bytes { contents } => object.add_symbol_data(symbol, section, contents, align),
+        Init::Zeros { size } => {
+            if definition.section().is_some() {
+                object.add_symbol_zeros(symbol, section, *size as u64, align)
+            } else {
+                object.add_symbol_bss(symbol, section, *size as u64, align)
+            }
+        }
+    }
+}
+
+// The standard section of data.
+fn data_section(tls: bool, definition: &Definition) -> StandardSection
+    ensures { result ≡ data_section tls definition.now (definition.now).contents }
+{
+    match (definition.contents(), tls) {
+        (Init::Zeros { .. }, true) => StandardSection::UninitializedTls,
+        (Init::Zeros { .. }, false) => StandardSection::UninitializedData,
+        (_, true) => StandardSection::Tls,
+        (_, false) => initialized_section(definition.writable(), definition.relocs().is_empty()),
+    }
+}
+
+// The standard section of initialized data that is not thread-local.
+fn initialized_section(writable: bool, plain: bool) -> StandardSection
+    ensures { result ≡ initialized_section writable plain }
+{
+    if writable {
+        StandardSection::Data
+    } else if plain {
+        StandardSection::ReadOnlyData
+    } else {
+        StandardSection::ReadOnlyDataWithRel
+    }
+}
+
+// The kind of a section under a text of its own.
+fn custom_kind(definition: &Definition) -> SectionKind
+    ensures { result ≡ custom_kind definition.now }
+{
+    if !definition.writable() && definition.relocs().is_empty() {
+        SectionKind::ReadOnlyData
+    } else {
+        SectionKind::Data
     }
 }
 

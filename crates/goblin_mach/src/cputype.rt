@@ -3,7 +3,7 @@
 
 ghost use Rattle.std.specs.Prelude.{◌≡◌, map};
 ghost use Rattle.std.specs.Option.{option_copied};
-ghost use Rattle.goblin_mach.specs.Architectures.{pair_named, name_of_pair, pair_in, name_in, row_view};
+ghost use Rattle.goblin_mach.specs.Architectures.{architectures, aliases, pair_named, name_of_pair, pair_in, name_in, row_view};
 
 /// The family of a processor.
 pub type CpuType = u32;
@@ -332,13 +332,31 @@ const ALIASES: [Row; 3] = [
 ];
 
 /// The type and subtype for which a name or another name of an architecture stands.
+#[tactic(auto, using(crate::proofs::Names::pair_either))]
 pub fn get_arch_from_flag(name: &str) -> Option<(CpuType, CpuSubType)>
     ensures { result ≡ pair_named name.now }
 {
-    pair_in(&ARCHITECTURES, name).or(pair_in(&ALIASES, name))
+    pair_of_architecture(name).or(pair_of_alias(name))
+}
+
+// The type and subtype of the architecture of that name.
+#[tactic(auto, unfolding(crate::specs::Architectures::architectures))]
+fn pair_of_architecture(name: &str) -> Option<(CpuType, CpuSubType)>
+    ensures { result ≡ pair_in architectures name.now }
+{
+    pair_in(&ARCHITECTURES, name)
+}
+
+// The type and subtype for which that other name stands.
+#[tactic(auto, unfolding(crate::specs::Architectures::aliases))]
+fn pair_of_alias(name: &str) -> Option<(CpuType, CpuSubType)>
+    ensures { result ≡ pair_in aliases name.now }
+{
+    pair_in(&ALIASES, name)
 }
 
 /// The name of the architecture of a type and subtype. The subtype is compared with its feature bits.
+#[tactic(auto, unfolding(crate::specs::Architectures::architectures))]
 pub fn get_arch_name_from_types(cputype: CpuType, cpusubtype: CpuSubType) -> Option<&'static str>
     ensures { option_copied result ≡ name_of_pair cputype cpusubtype }
 {

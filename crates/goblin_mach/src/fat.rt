@@ -127,6 +127,7 @@ impl<'a> Iterator for FatArchIterator<'a> {
 
     ghost remaining = { item_count (λ rest. rest) };
 
+    #[tactic(auto, using(crate::proofs::Items::item_next, crate::proofs::Items::items_end, crate::proofs::Items::item_missing))]
     fn next(&mut self) -> Option<Result<FatArch, Error>> {
         if self.number == self.narches {
             return None;

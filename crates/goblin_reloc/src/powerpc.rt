@@ -164,11 +164,11 @@ pub const R_PPC_EMB_SDA21: u32 = 109;
 pub const R_PPC_EMB_MRKREF: u32 = 110;
 /// S + A less the start of its section, in 2 bytes, signed.
 pub const R_PPC_EMB_RELSEC16: u32 = 111;
-/// The low half of a number that is relative to a section, in 2 bytes.
+/// The low half of a number that the embedded supplement defines, in 2 bytes.
 pub const R_PPC_EMB_RELST_LO: u32 = 112;
-/// The high half of a number that is relative to a section, in 2 bytes.
+/// The high half of that number, in 2 bytes.
 pub const R_PPC_EMB_RELST_HI: u32 = 113;
-/// The adjusted high half of a number that is relative to a section, in 2 bytes.
+/// The adjusted high half of that number, in 2 bytes.
 pub const R_PPC_EMB_RELST_HA: u32 = 114;
 /// S in a range of bits of a word, which the addend gives by place and width.
 pub const R_PPC_EMB_BIT_FLD: u32 = 115;

@@ -6,6 +6,7 @@
 
 mod aarch64;
 mod arm;
+mod families;
 mod laws;
 mod loongarch;
 mod mips;

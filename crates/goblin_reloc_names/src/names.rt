@@ -5,7 +5,10 @@ ghost use Rattle.std.specs.Prelude.{◌≡◌};
 ghost use Rattle.goblin_reloc_names.specs.Lookup.{name_among};
 ghost use Rattle.goblin_reloc_names.specs.Names.{relocation_name};
 
-use crate::{aarch64, arm, loongarch, mips, openrisc, powerpc, powerpc64, riscv, x86, x86_64};
+use crate::families::{
+    FamilyNames, aarch64_names, arm_names, loongarch_names, mips_names, openrisc_names,
+    powerpc_names, powerpc64_names, riscv_names, x86_64_names, x86_names,
+};
 
 /// Intel 80386.
 const EM_386: u16 = 3;
@@ -42,26 +45,28 @@ pub fn r_to_str(typ: u32, machine: u16) -> &'static str
     ensures { result.now ≡ relocation_name typ machine }
 {
     match machine {
-        EM_386 => name_in(&x86::NAMES, typ, "R_UNKNOWN_386"),
-        EM_MIPS | EM_MIPS_RS3_LE | EM_MIPS_X => name_in(&mips::NAMES, typ, "R_UNKNOWN_MIPS"),
-        EM_PPC => name_in(&powerpc::NAMES, typ, "R_UNKNOWN_PPC"),
-        EM_PPC64 => name_in(&powerpc64::NAMES, typ, "R_UNKNOWN_PPC64"),
-        EM_ARM => name_in(&arm::NAMES, typ, "R_UNKNOWN_ARM"),
-        EM_X86_64 => name_in(&x86_64::NAMES, typ, "R_UNKNOWN_X86_64"),
-        EM_OPENRISC => name_in(&openrisc::NAMES, typ, "R_UNKNOWN_OR1K"),
-        EM_AARCH64 => name_in(&aarch64::NAMES, typ, "R_UNKNOWN_AARCH64"),
-        EM_RISCV => name_in(&riscv::NAMES, typ, "R_UNKNOWN_RISCV"),
-        EM_LOONGARCH => name_in(&loongarch::NAMES, typ, "R_UNKNOWN_LOONGARCH"),
+        EM_386 => name_in(x86_names(), typ),
+        EM_MIPS | EM_MIPS_RS3_LE | EM_MIPS_X => name_in(mips_names(), typ),
+        EM_PPC => name_in(powerpc_names(), typ),
+        EM_PPC64 => name_in(powerpc64_names(), typ),
+        EM_ARM => name_in(arm_names(), typ),
+        EM_X86_64 => name_in(x86_64_names(), typ),
+        EM_OPENRISC => name_in(openrisc_names(), typ),
+        EM_AARCH64 => name_in(aarch64_names(), typ),
+        EM_RISCV => name_in(riscv_names(), typ),
+        EM_LOONGARCH => name_in(loongarch_names(), typ),
         _ => "R_UNKNOWN",
     }
 }
 
 /// The name in the row with the number, or the text for a number without one.
 #[tactic(auto, unfolding(crate::specs::Lookup::name_among))]
-fn name_in(rows: &'static [(u32, &'static str)], number: u32, unknown: &'static str) -> &'static str
-    ensures { result.now ≡ name_among rows.now number unknown.now }
+fn name_in(names: FamilyNames, number: u32) -> &'static str
+    ensures { result.now ≡ name_among names.rows.now number names.unknown.now }
 {
-    rows.iter()
+    names
+        .rows
+        .iter()
         .find(|row| row.0 == number)
-        .map_or(unknown, |row| row.1)
+        .map_or(names.unknown, |row| row.1)
 }

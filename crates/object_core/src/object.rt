@@ -299,7 +299,7 @@ impl Object {
         requires power { is_power_of_two align ≡ true }
         requires symbol { IsUndefined self.old symbol }
         requires section { HasBytes self.old section }
-        requires sum { (self.old).content_sum < 2 ^ 127 }
+        requires sum { (self.old).content_sum < 2 ^ 127 + 2 ^ 126 }
         ensures offset { IfOk result (λ offset. offset ≡ next_offset self.old section align) }
         ensures ok { OnOk result (self.new ≡ with_symbol_data self.old symbol section contents.now align) }
         ensures err { OnErr result (self.new ≡ self.old) }
@@ -321,7 +321,7 @@ impl Object {
         requires power { is_power_of_two align ≡ true }
         requires symbol { IsUndefined self.old symbol }
         requires section { HasBytes self.old section }
-        requires sum { (self.old).content_sum < 2 ^ 127 }
+        requires sum { (self.old).content_sum < 2 ^ 127 + 2 ^ 126 }
         ensures offset { IfOk result (λ offset. offset ≡ next_offset self.old section align) }
         ensures ok { OnOk result (self.new ≡ with_symbol_zeros self.old symbol section size align) }
         ensures err { OnErr result (self.new ≡ self.old) }
@@ -344,7 +344,7 @@ impl Object {
         requires power { is_power_of_two align ≡ true }
         requires symbol { IsUndefined self.old symbol }
         requires section { IsZeroFill self.old section }
-        requires sum { (self.old).content_sum < 2 ^ 127 }
+        requires sum { (self.old).content_sum < 2 ^ 127 + 2 ^ 126 }
         ensures succeeds { IsOk result }
         ensures offset { IfOk result (λ offset. offset ≡ next_offset self.old section align) }
         ensures ok { OnOk result (self.new ≡ with_symbol_bss self.old symbol section size align) }
@@ -364,7 +364,7 @@ impl Object {
     ) -> Result<u128, AllocError>
         requires power { is_power_of_two align ≡ true }
         requires section { HasBytes self.old section }
-        requires sum { (self.old).content_sum < 2 ^ 127 }
+        requires sum { (self.old).content_sum < 2 ^ 127 + 2 ^ 126 }
         ensures offset { IfOk result (λ offset. offset ≡ next_offset self.old section align) }
         ensures ok { OnOk result (self.new ≡ with_section_data self.old section contents.now align) }
         ensures err { OnErr result (self.new ≡ self.old) }
@@ -385,7 +385,7 @@ impl Object {
     ) -> Result<u128, AllocError>
         requires power { is_power_of_two align ≡ true }
         requires section { HasBytes self.old section }
-        requires sum { (self.old).content_sum < 2 ^ 127 }
+        requires sum { (self.old).content_sum < 2 ^ 127 + 2 ^ 126 }
         ensures offset { IfOk result (λ offset. offset ≡ next_offset self.old section align) }
         ensures ok { OnOk result (self.new ≡ with_section_data self.old section (replicate size 0) align) }
         ensures err { OnErr result (self.new ≡ self.old) }
@@ -400,7 +400,7 @@ impl Object {
     fn append_section_room(&mut self, section: SectionId, size: u64, align: u64) -> u128
         requires power { is_power_of_two align ≡ true }
         requires section { IsZeroFill self.old section }
-        requires sum { (self.old).content_sum < 2 ^ 127 }
+        requires sum { (self.old).content_sum < 2 ^ 127 + 2 ^ 126 }
         ensures offset { result ≡ next_offset self.old section align }
         ensures room { self.new ≡ with_section_room self.old section size align }
     {

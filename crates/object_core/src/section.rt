@@ -1,6 +1,6 @@
 //! Sections of an object.
 
-ghost use Rattle.std.specs.Prelude.{◌≡◌, ◌<◌, ◌^◌, true, length, replicate, None, IfOk, OnErr, OnOk};
+ghost use Rattle.std.specs.Prelude.{◌≡◌, ◌<◌, ◌+◌, ◌^◌, true, length, replicate, None, IfOk, OnErr, OnOk};
 ghost use Rattle.std.specs.Int.{is_power_of_two};
 ghost use Rattle.object_core.specs.Standard.{empty_section, empty_standard, empty_subsection};
 ghost use Rattle.object_core.specs.Appending.{retained, relocated, with_contents, with_room, offset_in};
@@ -160,7 +160,7 @@ impl Section {
     pub(crate) fn append(&mut self, contents: &[u8], align: u64) -> Result<u128, AllocError>
         requires power { is_power_of_two align ≡ true }
         requires bytes { length (self.old).contents ≡ (self.old).size }
-        requires size { (self.old).size < 2 ^ 127 }
+        requires size { (self.old).size < 2 ^ 127 + 2 ^ 126 }
         ensures offset { IfOk result (λ offset. offset ≡ offset_in align self.old) }
         ensures ok { OnOk result (self.new ≡ with_contents contents.now align self.old) }
         ensures err { OnErr result (self.new ≡ self.old) }
@@ -174,7 +174,7 @@ impl Section {
     pub(crate) fn append_zeros(&mut self, size: u64, align: u64) -> Result<u128, AllocError>
         requires power { is_power_of_two align ≡ true }
         requires bytes { length (self.old).contents ≡ (self.old).size }
-        requires size { (self.old).size < 2 ^ 127 }
+        requires size { (self.old).size < 2 ^ 127 + 2 ^ 126 }
         ensures offset { IfOk result (λ offset. offset ≡ offset_in align self.old) }
         ensures ok { OnOk result (self.new ≡ with_contents (replicate size 0) align self.old) }
         ensures err { OnErr result (self.new ≡ self.old) }
@@ -191,7 +191,7 @@ impl Section {
     /// Makes it so much larger behind a gap up to the alignment, without bytes, and answers their offset.
     pub(crate) fn append_room(&mut self, size: u64, align: u64) -> u128
         requires power { is_power_of_two align ≡ true }
-        requires size { (self.old).size < 2 ^ 127 }
+        requires size { (self.old).size < 2 ^ 127 + 2 ^ 126 }
         ensures offset { result ≡ offset_in align self.old }
         ensures room { self.new ≡ with_room size align self.old }
     {
@@ -204,7 +204,7 @@ impl Section {
     // Where contents of this alignment stand behind those that it has.
     fn next_offset(&self, align: u64) -> u128
         requires power { is_power_of_two align ≡ true }
-        requires size { (self.now).size < 2 ^ 127 }
+        requires size { (self.now).size < 2 ^ 127 + 2 ^ 126 }
         ensures { result ≡ offset_in align self.now }
     {
         self.size.next_multiple_of(u128::from(align))

@@ -1,20 +1,28 @@
 -- The parts of an input are of the form that is built so far.
-use Rattle.std.proofs.Common.{◌≡◌, ℕ, List, [], ◌∷◌, Bool, true, false, cond, ◌&&◌, bytes_eq, codes, Option, Some, None, refl, sym, subst, arith}
+use Rattle.std.proofs.Common.{◌≡◌, ℕ, ℤ, pos, zero, suc, List, [], ◌∷◌, ◌++◌, map, Bool, true, false, cond, ◌&&◌, bytes_eq, codes, Option, Some, None, refl, sym, subst}
+use Rattle.std.specs.Prelude.{slice_get, unwrap_or}
 use Rattle.std.specs.List.{All}
-use Rattle.std.proofs.lemmas.List.Elements.{All-cons}
+use Rattle.std.proofs.lemmas.List.Elements.{All-nil, All-cons, All-head, All-tail}
 use Rattle.serde_json.specs.Data.{Data, Items, item, no_items}
-use Rattle.serde_json.specs.Find.{as_array}
+use Rattle.serde_json.specs.Find.{get, as_array}
 use Rattle.ir_core.specs.Signature.{SignatureData}
 use Rattle.ir_core.specs.Target.{default_call_conv}
 use Rattle.ir_core.specs.declared.types.CallConv.{CallConv}
-use Rattle.cranelift_module.specs.Call.{Call, declare_function, declare_anonymous_function, declare_data, declare_anonymous_data, define_function}
+use Rattle.cranelift_module.specs.Call.{Call, declare_function, declare_anonymous_function, declare_data, declare_anonymous_data, define_function, define_data, Description}
+use Rattle.cranelift_module.specs.Definitions.{relocs_of, function_reloc, value_reloc}
+use Rattle.cranelift_module.specs.Texts.{IsUser, GoesToUser}
+use Rattle.cranelift_module.specs.declared.reloc.ModuleReloc.{ModuleReloc}
+use Rattle.cranelift_module.specs.declared.reloc.ModuleRelocTarget.{ModuleRelocTarget}
+use Rattle.cranelift_module.specs.declared.reloc.ModuleRelocTarget.TheVariants.{User}
+use Rattle.ir_core.specs.declared.reloc.Reloc.TheVariants.{Abs8}
 use Rattle.cranelift_module.specs.declared.linkage.Linkage.{Linkage}
 use Rattle.cranelift_object.specs.Commands.{IsPlainCall}
 use Rattle.image_build.specs.Built.{BuildPart}
 use Rattle.image_build.specs.Parts.{IsBuildable}
-use Rattle.objtool_run.specs.Form.{◌>>=◌, each_of, text_at, items_at, u32_at, mark_at, hex_at, has_keys_within}
+use Rattle.json_form.specs.Form.{◌>>=◌, each_of, or_else, number_of, text_at, items_at, u32_at, mark_or, hex_at, has_keys_within}
 use Rattle.objtool_run.specs.SignatureForm.{signature_at}
-use Rattle.objtool_run.specs.Script.{linkage_of, declare_of, anonymous_of, declare_data_of, anonymous_data_of, define_of, command_of, commands_of, elf_target, part_of, part_with, one_part, parts_of, HasFewCalls}
+use Rattle.objtool_run.specs.DefinitionForm.{target_of, kind_of, signed_of, reloc_of, IsAppended, list_at, relocs_at, targets_at, function_addresses_at, data_addresses_at, define_of, contents_at, align_at, section_at, definition_keys, define_data_of}
+use Rattle.objtool_run.specs.Script.{linkage_of, declare_of, anonymous_of, declare_data_of, anonymous_data_of, command_of, commands_of, elf_target, part_of, part_with, one_part, parts_of, HasFewCalls}
 
 -- what two steps give, the second gives of what the first gave
 given : {A B : Type 0} (o : Option A) (f : A → Option B) (y : B) → (o >>= f) ≡ Some y → (x : A) × (o ≡ Some x) × (f x ≡ Some y)
@@ -62,7 +70,7 @@ data_plain (Some name) (Some text) w t c h = go (linkage_of text) w t h where
 declare_data_plain : (d : Data) (c : Call) → declare_data_of d ≡ Some c → IsPlainCall c
 unfolding declare_data_of
 declare_data_plain d c h =
-    data_plain (text_at (codes "name") d) (text_at (codes "linkage") d) (mark_at (codes "writable") d) (mark_at (codes "tls") d) c
+    data_plain (text_at (codes "name") d) (text_at (codes "linkage") d) (mark_or (codes "writable") false d) (mark_or (codes "tls") false d) c
     (tested (has_keys_within (codes "op" ∷ codes "name" ∷ codes "linkage" ∷ codes "writable" ∷ codes "tls" ∷ []) d) _ c h)
 
 unnamed_data_plain : (w t : Option Bool) (c : Call) → (w >>= λ writable. t >>= λ tls. Some (declare_anonymous_data writable tls)) ≡ Some c → IsPlainCall c
@@ -72,74 +80,150 @@ unnamed_data_plain (Some w) (Some t) c h = let same : declare_anonymous_data w t
 
 anonymous_data_plain : (d : Data) (c : Call) → anonymous_data_of d ≡ Some c → IsPlainCall c
 unfolding anonymous_data_of
-anonymous_data_plain d c h = unnamed_data_plain (mark_at (codes "writable") d) (mark_at (codes "tls") d) c (tested (has_keys_within (codes "op" ∷ codes "writable" ∷ codes "tls" ∷ []) d) _ c h)
+anonymous_data_plain d c h = unnamed_data_plain (mark_or (codes "writable") false d) (mark_or (codes "tls") false d) c (tested (has_keys_within (codes "op" ∷ codes "writable" ∷ codes "tls" ∷ []) d) _ c h)
 
-defined_plain : (o : Option ℕ) (p : Option (List ℕ)) (c : Call) → (o >>= λ id. p >>= λ bytes. Some (define_function id 1 bytes [])) ≡ Some c → IsPlainCall c
-defined_plain None p c h = absurd (cc)
-defined_plain (Some id) None c h = absurd (cc)
-defined_plain (Some id) (Some bytes) c h = let same : define_function id 1 bytes [] ≡ c = cc in subst IsPlainCall same (refl, refl)
+-- what was read and appended
+pub appended : {A : Type 0} (old new : List A) (o : Option A) → IsAppended old new o → (x : A) × (o ≡ Some x) × (new ≡ old ++ x ∷ [])
+appended old new None h = absurd h
+appended old new (Some x) h = (x, refl, h)
+
+some_same : {A : Type 0} (x y : A) → Some x ≡ Some y → x ≡ y
+some_same x y h = cc
+
+-- what holds of each value that is read holds of all
+each_all : {A : Type 0} (P : A → Type 0) (read : Data → Option A) → ((d : Data) (x : A) → read d ≡ Some x → P x) → (ds : Items) (xs : List A) → each_of read ds ≡ Some xs → All P xs
+unfolding each_of
+each_all P read one no_items xs h = let same : [] ≡ xs = cc in subst (All P) same (All-nil P)
+each_all P read one (item d ds) xs h =
+    let first = given (read d) _ xs h in
+    let rest = given (each_of read ds) _ xs first.2 in
+    let same : first.0 ∷ rest.0 ≡ xs = cc in
+    subst (All P) same (All-cons P first.0 rest.0 (one d first.0 first.1) (each_all P read one ds rest.0 rest.1))
+
+user_from : (b c : Bool) (o p : Option ℕ) (t : ModuleRelocTarget) → cond b (o >>= λ n. Some (User 0 n)) (cond c (p >>= λ n. Some (User 1 n)) None) ≡ Some t → IsUser t
+user_from true c None p t h = absurd (cc)
+user_from true c (Some n) p t h = let same : User 0 n ≡ t = cc in subst IsUser same tt
+user_from false true o None t h = absurd (cc)
+user_from false true o (Some n) t h = let same : User 1 n ≡ t = cc in subst IsUser same tt
+user_from false false o p t h = absurd (cc)
+
+-- a target that is read is of a namespace and an index
+target_user : (d : Data) (t : ModuleRelocTarget) → target_of d ≡ Some t → IsUser t
+target_user d t h = user_from (has_keys_within (codes "function" ∷ []) d) (has_keys_within (codes "data" ∷ []) d) (u32_at (codes "function") d) (u32_at (codes "data") d) t h
+
+reloc_user : (d : Data) (r : ModuleReloc) → reloc_of d ≡ Some r → GoesToUser r
+unfolding reloc_of
+reloc_user d r h =
+    let a = given (u32_at (codes "offset") d) _ r (tested (has_keys_within (codes "offset" ∷ codes "kind" ∷ codes "target" ∷ codes "addend" ∷ []) d) _ r h) in
+    let b = given (text_at (codes "kind") d) _ r a.2 in
+    let k = given (kind_of b.0) _ r b.2 in
+    let v = given (get (codes "target") d) _ r k.2 in
+    let t = given (target_of v.0) _ r v.2 in
+    let z = given (or_else signed_of (pos 0) (get (codes "addend") d)) _ r t.2 in
+    let same : record { offset = a.0; kind = k.0; name = t.0; addend = z.0 } ≡ r = cc in
+    subst GoesToUser same (target_user v.0 t.0 t.1)
 
 define_plain : (d : Data) (c : Call) → define_of d ≡ Some c → IsPlainCall c
 unfolding define_of
-define_plain d c h = defined_plain (u32_at (codes "id") d) (hex_at (codes "bytes") d) c (tested (has_keys_within (codes "op" ∷ codes "id" ∷ codes "bytes" ∷ []) d) _ c h)
+define_plain d c h =
+    let i = given (u32_at (codes "id") d) _ c (tested (has_keys_within (codes "op" ∷ codes "id" ∷ codes "align" ∷ codes "bytes" ∷ codes "relocs" ∷ []) d) _ c h) in
+    let a = given (or_else number_of 1 (get (codes "align") d)) _ c i.2 in
+    let b = given (hex_at (codes "bytes") d) _ c a.2 in
+    let r = given (relocs_at (codes "relocs") d) _ c b.2 in
+    let values = given (list_at (codes "relocs") d) _ r.0 r.1 in
+    let same : define_function i.0 a.0 b.0 r.0 ≡ c = cc in
+    subst IsPlainCall same (each_all GoesToUser reloc_of reloc_user values.0 r.0 values.2)
 
-chosen_plain : (x y z w u : Bool) (v : CallConv) (d : Data) (c : Call)
-    → cond x (declare_of v d) (cond y (anonymous_of v d) (cond z (declare_data_of d) (cond w (anonymous_data_of d) (cond u (define_of d) None)))) ≡ Some c → IsPlainCall c
-chosen_plain true y z w u v d c h = declare_plain v d c h
-chosen_plain false true z w u v d c h = anonymous_plain v d c h
-chosen_plain false false true w u v d c h = declare_data_plain d c h
-chosen_plain false false false true u v d c h = anonymous_data_plain d c h
-chosen_plain false false false false true v d c h = define_plain d c h
-chosen_plain false false false false false v d c h = absurd (cc)
+targets_user : (key : List ℕ) (d : Data) (ts : List ModuleRelocTarget) → targets_at key d ≡ Some ts → All IsUser ts
+targets_user key d ts h = let values = given (list_at key d) _ ts h in each_all IsUser target_of target_user values.0 ts values.2
+
+imported_user : (imports : List ModuleRelocTarget) (n m : ℕ) → All IsUser imports → IsUser (unwrap_or (slice_get imports n) (User 0 m))
+imported_user [] n m all = tt
+imported_user (t ∷ ts) zero m all = All-head IsUser t ts all
+imported_user (t ∷ ts) (suc n) m all = imported_user ts n m (All-tail IsUser t ts all)
+
+functions_user : (imports : List ModuleRelocTarget) (as' : List (ℕ × ℕ)) → All IsUser imports → All GoesToUser (map (function_reloc Abs8 imports) as')
+functions_user imports [] all = All-nil GoesToUser
+functions_user imports (a ∷ as') all = All-cons GoesToUser (function_reloc Abs8 imports a) (map (function_reloc Abs8 imports) as') (imported_user imports a.1 a.1 all) (functions_user imports as' all)
+
+values_user : (imports : List ModuleRelocTarget) (as' : List (ℕ × ℕ × ℤ)) → All IsUser imports → All GoesToUser (map (value_reloc Abs8 imports) as')
+values_user imports [] all = All-nil GoesToUser
+values_user imports (a ∷ as') all = All-cons GoesToUser (value_reloc Abs8 imports a) (map (value_reloc Abs8 imports) as') (imported_user imports a.1 a.1 all) (values_user imports as' all)
+
+All-join : {A : Type 0} (P : A → Type 0) (xs ys : List A) → All P xs → All P ys → All P (xs ++ ys)
+All-join P [] ys a b = b
+All-join P (x ∷ xs) ys a b = All-cons P x (xs ++ ys) (All-head P x xs a) (All-join P xs ys (All-tail P x xs a) b)
+
+-- the relocations of a description whose imports are of namespaces go there
+description_user : (d : Description) → All IsUser d.function_decls → All IsUser d.data_decls → All GoesToUser (relocs_of d)
+description_user d f g = All-join GoesToUser (map (function_reloc Abs8 d.function_decls) d.function_relocs) (map (value_reloc Abs8 d.data_decls) d.data_relocs) (functions_user d.function_decls d.function_relocs f) (values_user d.data_decls d.data_relocs g)
+
+define_data_plain : (d : Data) (c : Call) → define_data_of d ≡ Some c → IsPlainCall c
+unfolding define_data_of
+define_data_plain d c h =
+    let i = given (u32_at (codes "id") d) _ c (tested (has_keys_within definition_keys d) _ c h) in
+    let contents = given (contents_at d) _ c i.2 in
+    let align = given (align_at d) _ c contents.2 in
+    let section = given (section_at d) _ c align.2 in
+    let used = given (mark_or (codes "used") false d) _ c section.2 in
+    let functions = given (targets_at (codes "functions") d) _ c used.2 in
+    let objects = given (targets_at (codes "data") d) _ c functions.2 in
+    let function_addresses = given (function_addresses_at (codes "function_addresses") d) _ c objects.2 in
+    let data_addresses = given (data_addresses_at (codes "data_addresses") d) _ c function_addresses.2 in
+    let desc : Description =
+    record {
+      contents = contents.0;
+      function_decls = functions.0;
+      data_decls = objects.0;
+      function_relocs = function_addresses.0;
+      data_relocs = data_addresses.0;
+      section = section.0;
+      align = align.0;
+      used = used.0;
+    }
+    in
+    let same : define_data i.0 desc ≡ c = some_same (define_data i.0 desc) c data_addresses.2 in
+    subst IsPlainCall same (description_user desc (targets_user (codes "functions") d functions.0 functions.1) (targets_user (codes "data") d objects.0 objects.1))
+
+chosen_plain : (x y z w u t : Bool) (v : CallConv) (d : Data) (c : Call)
+    → cond x (declare_of v d) (cond y (anonymous_of v d) (cond z (declare_data_of d) (cond w (anonymous_data_of d) (cond u (define_of d) (cond t (define_data_of d) None))))) ≡ Some c → IsPlainCall c
+chosen_plain true y z w u t v d c h = declare_plain v d c h
+chosen_plain false true z w u t v d c h = anonymous_plain v d c h
+chosen_plain false false true w u t v d c h = declare_data_plain d c h
+chosen_plain false false false true u t v d c h = anonymous_data_plain d c h
+chosen_plain false false false false true t v d c h = define_plain d c h
+chosen_plain false false false false false true v d c h = define_data_plain d c h
+chosen_plain false false false false false false v d c h = absurd (cc)
 
 command_plain : (v : CallConv) (d : Data) (c : Call) → command_of v d ≡ Some c → IsPlainCall c
 unfolding command_of
 command_plain v d c h = (let op = given (text_at (codes "op") d) _ c h in
-    chosen_plain (bytes_eq op.0 (codes "declare_function")) (bytes_eq op.0 (codes "declare_anonymous_function")) (bytes_eq op.0 (codes "declare_data")) (bytes_eq op.0 (codes "declare_anonymous_data")) (bytes_eq op.0 (codes "define_function")) v d c op.2)
-
-none_plain : All IsPlainCall []
-none_plain k d h = absurd (omega arith)
-
-more_plain : (v : CallConv) (d : Data) (rest : Option (List Call)) (cs : List Call) → ((r : List Call) → rest ≡ Some r → All IsPlainCall r) → (command_of v d >>= λ c. rest >>= λ more. Some (c ∷ more)) ≡ Some cs → All IsPlainCall cs
-more_plain v d rest cs later h = go (command_of v d) refl rest refl h where
-  go : (o : Option Call) → command_of v d ≡ o → (p : Option (List Call)) → rest ≡ p → (o >>= λ c. p >>= λ more. Some (c ∷ more)) ≡ Some cs → All IsPlainCall cs
-  go None e p f k = absurd (cc)
-  go (Some c) e None f k = absurd (cc)
-  go (Some c) e (Some more) f k = let same : (c ∷ more) ≡ cs = cc in subst (All IsPlainCall) same (All-cons IsPlainCall c more (command_plain v d c e) (later more f))
+    chosen_plain (bytes_eq op.0 (codes "declare_function")) (bytes_eq op.0 (codes "declare_anonymous_function")) (bytes_eq op.0 (codes "declare_data")) (bytes_eq op.0 (codes "declare_anonymous_data")) (bytes_eq op.0 (codes "define_function")) (bytes_eq op.0 (codes "define_data")) v d c op.2)
 
 commands_plain : (v : CallConv) (ds : Items) (cs : List Call) → commands_of v ds ≡ Some cs → All IsPlainCall cs
-unfolding each_of
-commands_plain v no_items cs h = let same : [] ≡ cs = cc in subst (All IsPlainCall) same none_plain
-commands_plain v (item d ds) cs h = more_plain v d (commands_of v ds) cs (λ r e. commands_plain v ds r e) h
+commands_plain v ds cs h = each_all IsPlainCall (command_of v) (command_plain v) ds cs h
 
 -- the convention of a function that names none
 abbrev convention : CallConv
 convention = default_call_conv elf_target.triple
 
 -- a part that has few commands is one that is built so far
-plain_part : (name : List ℕ) (ds : Items) (cs : List Call) → commands_of convention ds ≡ Some cs → HasFewCalls (part_with name cs ∷ []) → IsBuildable (part_with name cs ∷ [])
-plain_part name ds cs e few = record { few = few.0; plain = commands_plain convention ds cs e; format = λ h. absurd (cc) }
-
-taken_plain : (name arch format : Option (List ℕ)) (ds : Option Items) (p : BuildPart)
-    → (name >>= λ name. arch >>= λ arch. format >>= λ format. ds >>= λ items. commands_of convention items >>= λ calls. cond (bytes_eq arch (codes "x86_64") && bytes_eq format (codes "elf")) (Some (part_with name calls)) None) ≡ Some p
-    → HasFewCalls (p ∷ []) → IsBuildable (p ∷ [])
-taken_plain None arch format ds p h few = absurd (cc)
-taken_plain (Some name) None format ds p h few = absurd (cc)
-taken_plain (Some name) (Some arch) None ds p h few = absurd (cc)
-taken_plain (Some name) (Some arch) (Some format) None p h few = absurd (cc)
-taken_plain (Some name) (Some arch) (Some format) (Some items) p h few = go (commands_of convention items) refl h where
-  go : (o : Option (List Call)) → commands_of convention items ≡ o → (o >>= λ calls. cond (bytes_eq arch (codes "x86_64") && bytes_eq format (codes "elf")) (Some (part_with name calls)) None) ≡ Some p → IsBuildable (p ∷ [])
-  go None e k = absurd (cc)
-  go (Some calls) e k =
-      let found : Some (part_with name calls) ≡ Some p = tested (bytes_eq arch (codes "x86_64") && bytes_eq format (codes "elf")) (Some (part_with name calls)) p k in
-      let same : part_with name calls ≡ p = cc in
-      subst (λ q. IsBuildable (q ∷ [])) same (plain_part name items calls e (subst (λ q. HasFewCalls (q ∷ [])) (sym same) few))
+plain_part : (name : List ℕ) (f o : Bool) (ds : Items) (cs : List Call) → commands_of convention ds ≡ Some cs → HasFewCalls (part_with name f o cs ∷ []) → IsBuildable (part_with name f o cs ∷ [])
+plain_part name f o ds cs e few = record { few = few.0; plain = commands_plain convention ds cs e; format = λ h. absurd (cc) }
 
 part_plain : (d : Data) (p : BuildPart) → part_of d ≡ Some p → HasFewCalls (p ∷ []) → IsBuildable (p ∷ [])
 unfolding part_of
 part_plain d p h few =
-    taken_plain (text_at (codes "name") d) (text_at (codes "arch") d) (text_at (codes "format") d) (items_at (codes "commands") d) p
-    (tested (has_keys_within (codes "name" ∷ codes "arch" ∷ codes "format" ∷ codes "commands" ∷ []) d) _ p h) few
+    let name = given (text_at (codes "name") d) _ p (tested (has_keys_within (codes "name" ∷ codes "arch" ∷ codes "format" ∷ codes "function_sections" ∷ codes "data_sections" ∷ codes "commands" ∷ []) d) _ p h) in
+    let arch = given (text_at (codes "arch") d) _ p name.2 in
+    let format = given (text_at (codes "format") d) _ p arch.2 in
+    let f = given (mark_or (codes "function_sections") false d) _ p format.2 in
+    let o = given (mark_or (codes "data_sections") false d) _ p f.2 in
+    let items = given (items_at (codes "commands") d) _ p o.2 in
+    let calls = given (commands_of convention items.0) _ p items.2 in
+    let found : Some (part_with name.0 f.0 o.0 calls.0) ≡ Some p = tested (bytes_eq arch.0 (codes "x86_64") && bytes_eq format.0 (codes "elf")) (Some (part_with name.0 f.0 o.0 calls.0)) p calls.2 in
+    let same : part_with name.0 f.0 o.0 calls.0 ≡ p = cc in
+    subst (λ q. IsBuildable (q ∷ [])) same (plain_part name.0 f.0 o.0 items.0 calls.0 calls.1 (subst (λ q. HasFewCalls (q ∷ [])) (sym same) few))
 
 list_plain : (ds : Items) (parts : List BuildPart) → one_part ds ≡ Some parts → HasFewCalls parts → IsBuildable parts
 list_plain no_items parts h few = absurd (cc)

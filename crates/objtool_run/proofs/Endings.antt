@@ -1,5 +1,5 @@
 -- The ends of a run, from what its steps say.
-use Rattle.std.proofs.Common.{◌≡◌, ◌≢◌, ◌↔◌, ℕ, zero, suc, ◌+◌, ◌-◌, ◌<◌, ◌≤◌, ◌⊎◌, inl, inr, ⊎_elim, List, length, max, min, Option, Some, None, IfSome, Result, Ok, Err, String, Global, string_bytes, refl, ap, sym, subst, ◌∙◌, arith}
+use Rattle.std.proofs.Common.{◌≡◌, ◌≢◌, ◌↔◌, ℕ, zero, suc, ◌+◌, ◌-◌, ◌<◌, ◌≤◌, ◌⊎◌, inl, inr, ⊎_elim, List, Option, Some, None, IfSome, Result, Ok, Err, String, Global, string_bytes, refl, ap, sym, ◌∙◌, arith}
 use Rattle.byte_core.specs.Count.{Rose, risen, last_count}
 use Rattle.byte_core.specs.Outside.{Outside, ChangesInput, ChangesOutput, ChangesErrors, Appends, AppendsFront}
 use Rattle.objtool_run.specs.Fault.{code_of}

@@ -1,19 +1,15 @@
 -- What each end of a run says of its input.
-use Rattle.std.proofs.Common.{◌≡◌, ◌≢◌, ◌↔◌, ℕ, ◌+◌, ◌-◌, ◌<◌, ◌≤◌, ◌⊎◌, inl, inr, ⊎_elim, List, length, Option, Some, None, IfSome, string_bytes, refl, ap, sym, subst, ◌∙◌, arith}
-use Rattle.byte_core.specs.Count.{Rose, risen, last_count}
-use Rattle.byte_core.specs.Outside.{Outside, ChangesInput, ChangesOutput, ChangesErrors, Appends, AppendsFront}
+use Rattle.std.proofs.Common.{◌≡◌, ℕ, ◌⊎◌, List, Option, Some, None, IfSome, string_bytes, refl, ap, sym, ◌∙◌, arith}
 use Rattle.serde_json.specs.Data.{Data}
 use Rattle.image_build.specs.Built.{BuildPart, BuildRefusal, build_cause}
 use Rattle.objtool_run.specs.Fault.{code_of}
 use Rattle.objtool_run.specs.Script.{HasJson, HasNoJson, HasOtherForm, StandsFor}
-use Rattle.objtool_run.specs.Run.{input_limit, IsOutput, IsRefused, IsUnread, IsOther, IsTaken, IsLong, Explains, ExplainsBuild, Judges, JudgesBuild, IsValid, IsAnswerable, IsJudged, IsOfResponse}
-use Rattle.objtool_run.specs.Ends.{Answers, AnswersFront, Ends, Tells, Refuses}
-use Rattle.objtool_run.specs.Words.{request_of}
+use Rattle.objtool_run.specs.Run.{IsOutput, IsLong, Explains, Judges, JudgesBuild, IsAnswerable, IsJudged}
 use Rattle.objtool_run.specs.declared.words.Request.{Request}
 use Rattle.objtool_run.specs.declared.words.Request.TheVariants.{Build, Names, Ask}
 use Rattle.objtool_run.specs.declared.words.Query.{Query}
-use Rattle.objtool_run.specs.Query.{Reply, told, refusal, reply_of, IsTold, IsRefusedQuery, IsUnreadQuery, ExplainsQuery, JudgesQuery, IsAnswered, IsToldLine, IsRefusalLine}
-use Rattle.objtool_run.specs.Fault.{line}
+use Rattle.json_form.specs.Reply.{Reply, told, refusal}
+use Rattle.objtool_run.specs.Query.{reply_of, IsTold, IsRefusedQuery, IsUnreadQuery, JudgesQuery, IsToldLine, IsRefusalLine}
 use Rattle.objtool_run.specs.declared.fault.Fault.{Fault}
 use Rattle.objtool_run.specs.declared.fault.Fault.TheVariants.{Refused, BadWords, ReadFailed, WriteFailed, OutOfMemory, NotUnderstood, TooLong, NotYet}
 

@@ -1,8 +1,6 @@
 pub mod Taking
 pub mod NoFloat
 pub mod NumberWords
-pub mod Keys
-pub mod EachOf
 pub mod Judging
 pub mod Endings
 pub mod PartList

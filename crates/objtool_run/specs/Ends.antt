@@ -1,5 +1,5 @@
 -- How a run of the program ends.
-use Rattle.std.specs.Prelude.{◌≡◌, ◌≢◌, ◌↔◌, ◌⊎◌, ◌+◌, ◌-◌, ◌<◌, ◌≤◌, ℕ, List, length, Option, None, IfSome, Result, Ok, Err}
+use Rattle.std.specs.Prelude.{◌≡◌, ◌≢◌, ◌↔◌, ◌⊎◌, ◌+◌, ◌-◌, ◌<◌, ◌≤◌, ℕ, List, None, IfSome, Result, Ok, Err}
 use Rattle.byte_core.specs.Count.{Rose, risen, last_count}
 use Rattle.byte_core.specs.Outside.{Outside, Appends, AppendsFront}
 use Rattle.objtool_run.specs.Fault.{code_of}

@@ -1,7 +1,7 @@
 pub mod Words
 pub mod Fault
-pub mod Form
 pub mod SignatureForm
+pub mod DefinitionForm
 pub mod Script
 pub mod Query
 pub mod Run

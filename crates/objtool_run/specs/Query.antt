@@ -6,17 +6,17 @@ use Rattle.cranelift_module.specs.Declarations.{DeclarationLists}
 use Rattle.cranelift_module.specs.DeclarationJson.{value_of, from_json}
 use Rattle.cranelift_module.specs.JsonTexts.{json_cause_text}
 use Rattle.cranelift_module.specs.declared.declaration_json.cause.JsonCause.{JsonCause}
+use Rattle.json_form.specs.Reply.{Reply, told, refusal}
+use Rattle.pe_json.specs.Signed.{signed_reply}
+use Rattle.pe_json.specs.Clr.{clr_reply}
+use Rattle.pe_json.specs.LoadConfig.{load_config_reply}
+use Rattle.pe_json.specs.Tls.{tls_reply}
 use Rattle.objtool_run.specs.Fault.{line}
 use Rattle.objtool_run.specs.Script.{HasJson}
 use Rattle.objtool_run.specs.declared.fault.Fault.{Fault}
 use Rattle.objtool_run.specs.declared.fault.Fault.TheVariants.{Refused, BadWords, ReadFailed, WriteFailed, OutOfMemory, NotUnderstood, TooLong, NotYet}
 use Rattle.objtool_run.specs.declared.words.Query.{Query}
-use Rattle.objtool_run.specs.declared.words.Query.TheVariants.{Declarations}
-
--- a library answers with a text, or refuses the value by a text
-pub data Reply : Type 0 where
-  told : List ℕ → Reply
-  refusal : List ℕ → Reply
+use Rattle.objtool_run.specs.declared.words.Query.TheVariants.{Declarations, Signed, Clr, LoadConfig, Tls}
 
 -- declarations are written again, or their first cause is told
 abbrev pub declarations_reply : Result DeclarationLists JsonCause → Reply
@@ -26,6 +26,10 @@ declarations_reply (Err cause) = refusal (json_cause_text cause)
 -- what is answered to a value; none where it isn't of the query's form. Every value is of the form of declarations.
 abbrev pub reply_of : Query → Data → Option Reply
 reply_of Declarations d = Some (declarations_reply (from_json d))
+reply_of Signed d = signed_reply d
+reply_of Clr d = clr_reply d
+reply_of LoadConfig d = load_config_reply d
+reply_of Tls d = tls_reply d
 
 -- the line is that of a told text
 abbrev pub IsToldLine : List ℕ → Option Reply → Type 0

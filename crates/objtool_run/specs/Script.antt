@@ -1,5 +1,5 @@
 -- The list of parts that a JSON value stands for.
-use Rattle.std.specs.Prelude.{◌≡◌, ℕ, ◌<◌, ◌&&◌, false, List, [], ◌∷◌, length, codes, if◌then◌else◌, Option, Some, None}
+use Rattle.std.specs.Prelude.{◌≡◌, ℕ, ◌<◌, ◌&&◌, Bool, false, List, [], ◌∷◌, length, codes, if◌then◌else◌, Option, Some, None}
 use Rattle.std.specs.Str.{bytes_eq, IsUtf8}
 use Rattle.serde_json.specs.Data.{Data, Items, no_items, item}
 use Rattle.serde_json.specs.Find.{as_array}
@@ -12,11 +12,12 @@ use Rattle.ir_core.specs.declared.target.System.TheVariants as systems
 use Rattle.ir_core.specs.declared.target.Environment.TheVariants as environments
 use Rattle.cranelift_module.specs.declared.linkage.Linkage.{Linkage}
 use Rattle.cranelift_module.specs.declared.linkage.Linkage.TheVariants.{Import, Local, Preemptible, Hidden, Export}
-use Rattle.cranelift_module.specs.Call.{Call, declare_function, declare_anonymous_function, declare_data, declare_anonymous_data, define_function}
+use Rattle.cranelift_module.specs.Call.{Call, declare_function, declare_anonymous_function, declare_data, declare_anonymous_data}
 use Rattle.cranelift_module.specs.LibraryNames.{usual_texts}
 use Rattle.image_build.specs.Built.{BuildPart, commands, image}
 use Rattle.objtool_run.specs.SignatureForm.{signature_at}
-use Rattle.objtool_run.specs.Form.{◌>>=◌, each_of, text_at, items_at, u32_at, mark_at, hex_at, with_keys}
+use Rattle.objtool_run.specs.DefinitionForm.{define_of, define_data_of}
+use Rattle.json_form.specs.Form.{◌>>=◌, each_of, text_at, items_at, mark_or, with_keys}
 
 -- -- commands
 
@@ -50,22 +51,27 @@ declare_data_of d = with_keys (codes "op" ∷ codes "name" ∷ codes "linkage" �
   name ← text_at (codes "name") d
   text ← text_at (codes "linkage") d
   linkage ← linkage_of text
-  writable ← mark_at (codes "writable") d
-  tls ← mark_at (codes "tls") d
+  writable ← mark_or (codes "writable") false d
+  tls ← mark_or (codes "tls") false d
   Some (declare_data name linkage writable tls)
 
 -- a declaration of data without a name
 unfoldable pub anonymous_data_of : Data → Option Call
 anonymous_data_of d = with_keys (codes "op" ∷ codes "writable" ∷ codes "tls" ∷ []) d do
-  writable ← mark_at (codes "writable") d
-  tls ← mark_at (codes "tls") d
+  writable ← mark_or (codes "writable") false d
+  tls ← mark_or (codes "tls") false d
   Some (declare_anonymous_data writable tls)
 
-unfoldable pub define_of : Data → Option Call
-define_of d = with_keys (codes "op" ∷ codes "id" ∷ codes "bytes" ∷ []) d do
-  id ← u32_at (codes "id") d
-  bytes ← hex_at (codes "bytes") d
-  Some (define_function id 1 bytes [])
+-- a definition by its `op`
+abbrev pub definition_by : List ℕ → Data → Option Call
+definition_by op d = if bytes_eq op (codes "define_function") then define_of d else if bytes_eq op (codes "define_data") then define_data_of d else None
+
+-- a command over data, or a definition, by its `op`
+abbrev pub data_command_by : List ℕ → Data → Option Call
+data_command_by op d =
+    if bytes_eq op (codes "declare_data") then declare_data_of d
+    else if bytes_eq op (codes "declare_anonymous_data") then anonymous_data_of d
+    else definition_by op d
 
 -- a command by its `op`
 unfoldable pub command_of : CallConv → Data → Option Call
@@ -73,10 +79,7 @@ command_of convention d = do
   op ← text_at (codes "op") d
   if bytes_eq op (codes "declare_function") then declare_of convention d
       else if bytes_eq op (codes "declare_anonymous_function") then anonymous_of convention d
-      else if bytes_eq op (codes "declare_data") then declare_data_of d
-      else if bytes_eq op (codes "declare_anonymous_data") then anonymous_data_of d
-      else if bytes_eq op (codes "define_function") then define_of d
-      else None
+      else data_command_by op d
 
 -- the commands of a list
 abbrev pub commands_of : CallConv → Items → Option (List Call)
@@ -88,23 +91,25 @@ commands_of convention ds = each_of (command_of convention) ds
 abbrev pub elf_target : Target
 elf_target = record { triple = record { architecture = X86_64; binary_format = Elf; system = systems.Unknown; version = None; environment = environments.Unknown }; flags = [] }
 
--- a part without options, with the default library texts
-abbrev pub part_with : List ℕ → List Call → BuildPart
-part_with name calls =
+-- a part with these two section options, and the default library texts
+abbrev pub part_with : List ℕ → Bool → Bool → List Call → BuildPart
+part_with name function_sections data_sections calls =
     commands (record {
-      settings = record { file_name = name; library_names = usual_texts; function_sections = false; data_sections = false };
+      settings = record { file_name = name; library_names = usual_texts; function_sections = function_sections; data_sections = data_sections };
       target = elf_target;
       calls = calls;
     })
 
 unfoldable pub part_of : Data → Option BuildPart
-part_of d = with_keys (codes "name" ∷ codes "arch" ∷ codes "format" ∷ codes "commands" ∷ []) d do
+part_of d = with_keys (codes "name" ∷ codes "arch" ∷ codes "format" ∷ codes "function_sections" ∷ codes "data_sections" ∷ codes "commands" ∷ []) d do
   name ← text_at (codes "name") d
   arch ← text_at (codes "arch") d
   format ← text_at (codes "format") d
+  function_sections ← mark_or (codes "function_sections") false d
+  data_sections ← mark_or (codes "data_sections") false d
   items ← items_at (codes "commands") d
   calls ← commands_of (default_call_conv elf_target.triple) items
-  if bytes_eq arch (codes "x86_64") && bytes_eq format (codes "elf") then Some (part_with name calls) else None
+  if bytes_eq arch (codes "x86_64") && bytes_eq format (codes "elf") then Some (part_with name function_sections data_sections calls) else None
 
 abbrev pub one_part : Items → Option (List BuildPart)
 one_part no_items = None

@@ -13,7 +13,7 @@ use Rattle.ir_core.specs.declared.types.ArgumentPurpose.{ArgumentPurpose}
 use Rattle.ir_core.specs.declared.types.ArgumentPurpose.TheVariants.{Normal, StructReturn, VMContext}
 use Rattle.ir_core.specs.declared.types.CallConv.{CallConv}
 use Rattle.ir_core.specs.declared.types.CallConv.TheVariants.{Fast, Tail, SystemV, WindowsFastcall, AppleAarch64}
-use Rattle.objtool_run.specs.Form.{◌>>=◌, each_of, or_else, with_keys, text_at}
+use Rattle.json_form.specs.Form.{◌>>=◌, each_of, or_else, with_keys, text_at}
 
 abbrev pub type_named : List ℕ → Option ValueType
 type_named text =

@@ -5,8 +5,7 @@ use Rattle.std.specs.Str.{bytes_eq}
 use Rattle.std.specs.Str.Parse.{digits_value}
 use Rattle.objtool_run.specs.declared.words.Request.{Request}
 use Rattle.objtool_run.specs.declared.words.Request.TheVariants.{Build, Names, Ask}
-use Rattle.objtool_run.specs.declared.words.Query.{Query}
-use Rattle.objtool_run.specs.declared.words.Query.TheVariants.{Declarations}
+use Rattle.objtool_run.specs.declared.words.Query.TheVariants.{Declarations, Signed, Clr, LoadConfig, Tls}
 
 -- a decimal digit
 abbrev pub is_digit : ℕ → Bool
@@ -27,10 +26,14 @@ names_of (Some machine) (Some number) = Some (Names machine number)
 names_of _ _ = None
 
 -- what the word of a command alone asks for
-abbrev pub request_named : List ℕ → Option Request
+unfoldable pub request_named : List ℕ → Option Request
 request_named command =
     if bytes_eq command (codes "build") then Some Build
     else if bytes_eq command (codes "declarations") then Some (Ask Declarations)
+    else if bytes_eq command (codes "signed") then Some (Ask Signed)
+    else if bytes_eq command (codes "clr") then Some (Ask Clr)
+    else if bytes_eq command (codes "loadconfig") then Some (Ask LoadConfig)
+    else if bytes_eq command (codes "tls") then Some (Ask Tls)
     else None
 
 -- the request that the words name, if any: a command alone, or `names` with a machine's number and a relocation's

@@ -17,7 +17,7 @@ mod words;
 pub use build::answer;
 pub use fault::Fault;
 pub use input::{INPUT_LIMIT, InputError, read_input};
+pub use json_form::FormError;
 pub use output::{write_fault_text, write_output};
 pub use program::run;
 pub use script::command::commands_of;
-pub use script::form::FormError;

@@ -1,6 +1,6 @@
 //! What is asked over the input's JSON value.
 
-ghost use Rattle.std.specs.Prelude.{◌≡◌, ◌≢◌, Some, IfOk, IfErr, string_bytes};
+ghost use Rattle.std.specs.Prelude.{◌≡◌, ◌≢◌, Option, Some, IfOk, IfErr, string_bytes};
 ghost use Rattle.serde_json.specs.View.{view};
 ghost use Rattle.cranelift_module.specs.JsonTexts.{json_cause_text};
 ghost use Rattle.cranelift_module.specs.declared.declaration_json.cause.JsonCause.TheVariants.{Allocation};
@@ -8,13 +8,18 @@ ghost use Rattle.cranelift_module.specs.DeclarationJson.{value_of};
 ghost use Rattle.serde_json.specs.Written.{compact_text};
 ghost use Rattle.objtool_run.specs.declared.fault.Fault.TheVariants.{OutOfMemory};
 ghost use Rattle.objtool_run.specs.Fault.{line};
-ghost use Rattle.objtool_run.specs.Query.{reply_of, refusal, IsToldLine, FaultTells, IsTold, ExplainsQuery};
+ghost use Rattle.json_form.specs.Reply.{Reply, refusal};
+ghost use Rattle.pe_core.specs.Texts.{error_text};
+ghost use Rattle.pe_json.specs.Answers.{Answers};
+ghost use Rattle.objtool_run.specs.Query.{reply_of, IsToldLine, FaultTells, IsTold, ExplainsQuery};
 ghost use Rattle.objtool_run.specs.Run.{IsOfInput};
 ghost use Rattle.objtool_run.specs.declared.words.Query.TheVariants.{Declarations};
 
 use crate::fault::Fault;
 use crate::words::Query;
 use cranelift_module::{JsonCause, ModuleDeclarations};
+use pe_core::pe_error::Error;
+use pe_json::{Unanswered, clr_text, load_config_text, signed_text, tls_text};
 use serde_json::Value;
 use std::alloc::{AllocError, Global};
 
@@ -42,7 +47,51 @@ fn reply(alloc: Global, query: Query, value: &Value) -> Result<Vec<u8>, Fault>
 {
     match query {
         Query::Declarations => declarations(alloc, value),
+        Query::Signed => answered(alloc, signed_text(alloc, value)),
+        Query::Clr => answered(alloc, clr_text(alloc, value)),
+        Query::LoadConfig => answered(alloc, load_config_text(alloc, value)),
+        Query::Tls => answered(alloc, tls_text(alloc, value)),
     }
+}
+
+// The line of what a reader of PE files answers, or its fault.
+fn answered(alloc: Global, answer: Result<Vec<u8>, Unanswered>) -> Result<Vec<u8>, Fault>
+    ensures ok { IfOk result (λ text. (reply : Option Reply) → Answers (λ v. v.items) answer reply → IsToldLine text.items reply) }
+    ensures fault { IfErr result (λ fault. (reply : Option Reply) → Answers (λ v. v.items) answer reply → FaultTells fault reply) }
+{
+    match answer {
+        Ok(text) => ended(text),
+        Err(Unanswered::NotForm) => Err(Fault::NotUnderstood),
+        Err(Unanswered::Refused(error)) => Err(refused_file(alloc, error)),
+        Err(Unanswered::OutOfMemory) => Err(Fault::OutOfMemory),
+    }
+}
+
+// A text with a newline.
+fn ended(mut text: Vec<u8>) -> Result<Vec<u8>, Fault>
+    ensures ok { IfOk result (λ ended. ended.items ≡ line text.items) }
+    ensures fault { IfErr result (λ fault. fault ≡ OutOfMemory) }
+{
+    match text.push(b'\n') {
+        Ok(()) => Ok(text),
+        Err(_) => Err(Fault::OutOfMemory),
+    }
+}
+
+// The fault of a file that a reader refuses.
+fn refused_file(alloc: Global, error: Error) -> Fault
+    ensures { FaultTells result (Some (refusal (error_text error))) }
+{
+    match file_refusal_text(alloc, error) {
+        Ok(text) => Fault::Refused(text),
+        Err(_) => Fault::OutOfMemory,
+    }
+}
+
+fn file_refusal_text(alloc: Global, error: Error) -> Result<String, AllocError>
+    ensures { IfOk result (λ text. string_bytes text ≡ line (error_text error)) }
+{
+    format!(in alloc; "{error}\n")
 }
 
 // The declarations that a value stands for, written again.

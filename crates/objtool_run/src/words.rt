@@ -20,6 +20,14 @@ pub(crate) enum Request {
 pub(crate) enum Query {
     /// The declarations that it stands for, written again.
     Declarations,
+    /// The bytes of a PE file that its signature covers.
+    Signed,
+    /// The CLR metadata of a PE file.
+    Clr,
+    /// The load configuration of a PE file.
+    LoadConfig,
+    /// The thread-local data of a PE file.
+    Tls,
 }
 
 /// The request that the words name, if any.
@@ -36,12 +44,17 @@ pub(crate) fn request_of(words: &[String]) -> Option<Request>
 }
 
 // What the word of a command alone asks for.
+#[tactic(auto, unfolding(crate::specs::Words::request_named))]
 fn request_named(word: &str) -> Option<Request>
     ensures { result ≡ request_named word.now }
 {
     match word {
         "build" => Some(Request::Build),
         "declarations" => Some(Request::Ask(Query::Declarations)),
+        "signed" => Some(Request::Ask(Query::Signed)),
+        "clr" => Some(Request::Ask(Query::Clr)),
+        "loadconfig" => Some(Request::Ask(Query::LoadConfig)),
+        "tls" => Some(Request::Ask(Query::Tls)),
         _ => None,
     }
 }

@@ -8,4 +8,6 @@ mod declaration_tests;
 #[cfg(test)]
 mod files;
 #[cfg(test)]
+mod pe_tests;
+#[cfg(test)]
 mod query_tests;

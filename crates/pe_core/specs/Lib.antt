@@ -1,3 +1,4 @@
 pub mod ConstantRows
 pub mod Steps
 pub mod FindOffset
+pub mod Texts

@@ -1,20 +1,9 @@
 -- The ranges with which an iterator begins.
-use Rattle.std.proofs.Common.{◌≡◌, ℕ, zero, suc, ◌+◌, ◌-◌, ◌%◌, ◌^◌, ◌<◌, ◌≤◌, Bool, true, false, List, [], ◌∷◌, refl, ap, arith, sym, ◌∙◌, nat_lt, nat_le, ◌&&◌, ◌||◌, ◌==◌, length, take, replicate, min, if◌then◌else◌}
-use Rattle.std.specs.Prelude.{filter}
+use Rattle.std.proofs.Common.{◌≡◌, ℕ, zero, suc, ◌-◌, ◌%◌, ◌^◌, ◌<◌, ◌≤◌, Bool, true, false, List, [], ◌∷◌, refl, ap, arith, sym, ◌∙◌, nat_lt, ◌==◌, length, take, replicate, min, if◌then◌else◌}
 use Rattle.pe_core.specs.declared.section_table.SectionTable.{SectionTable}
 use Rattle.pe_signed.specs.declared.authenticode.ExcludedSections.{ExcludedSections}
 use Rattle.pe_core.specs.Steps.{bytes_between}
-use Rattle.pe_signed.specs.SignedRanges.{is_filled, bytes_hashed, extra_ranges, fill_of, fill_ranges}
-use Rattle.pe_signed.specs.SectionOrder.{sections_from}
-
-from_start : (f : Bool) (at r : ℕ) → (f && (nat_lt 0 r || (0 == r && nat_le 0 at))) ≡ f
-from_start f at r = grind arith
-
--- all that have bytes are left from the start
-pub all_filled : (at : ℕ) (ss : List SectionTable) → sections_from 0 0 at ss ≡ filter is_filled ss
-unfolding sections_from
-all_filled at [] = refl
-all_filled at (s ∷ ss) = rw (from_start (is_filled s) at s.pointer_to_raw_data, all_filled (at + 1) ss) refl
+use Rattle.pe_signed.specs.SignedRanges.{bytes_hashed, extra_ranges, fill_of, fill_ranges}
 
 take_same : (z k n : ℕ) → n ≤ k → take n (replicate k z) ≡ replicate n z
 take_same z k zero h = refl

@@ -1,5 +1,7 @@
-pub mod NextSections
+pub mod NumberedSections
+pub mod Placing
+pub mod Found
+pub mod SectionsLeft
 pub mod RangesLeft
-pub mod AscendingOrder
 pub mod FreshRanges
 pub mod SignedFile

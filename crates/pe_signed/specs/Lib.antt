@@ -1,5 +1,6 @@
 pub mod SignedRanges
 pub mod SectionOrder
-pub mod NextSection
+pub mod NumberedSections
+pub mod SectionsLeft
 pub mod RangesLeft
 pub mod SignedFile

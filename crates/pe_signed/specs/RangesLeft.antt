@@ -1,14 +1,9 @@
 -- What a contract sees of an iterator over signed ranges: those that are left.
-use Rattle.std.specs.Prelude.{ℕ, List, ◌++◌, map, filter, drop}
+use Rattle.std.specs.Prelude.{ℕ, ◌+◌, ◌≤◌, List, [], ◌∷◌, ◌++◌, map}
 use Rattle.std.specs.Option.{option_copied, option_to_list}
 use Rattle.pe_signed.specs.declared.authenticode.ExcludedSectionsIter.TheInside.{Inside}
 use Rattle.pe_core.specs.declared.section_table.SectionTable.{SectionTable}
-use Rattle.pe_signed.specs.SignedRanges.{is_filled, by_pointer, section_bytes}
-use Rattle.pe_signed.specs.SectionOrder.{sections_from}
-
--- the sections that are left of a table whose pointers ascend, from a number on, and of one in another order, from a pointer and number on
-abbrev pub sections_left : List SectionTable → ℕ → List SectionTable → ℕ → ℕ → List SectionTable
-sections_left ascending at scattered pointer number = filter is_filled (drop at ascending) ++ by_pointer (sections_from pointer number 0 scattered)
+use Rattle.pe_signed.specs.SignedRanges.{section_bytes}
 
 -- the ranges that are still to come
 abbrev pub ranges_left : Inside → List (List ℕ)
@@ -16,6 +11,11 @@ ranges_left it =
     option_to_list (option_copied it.before_checksum)
     ++ (option_to_list (option_copied it.before_entry)
     ++ (option_to_list (option_copied it.before_header_end)
-    ++ (map (section_bytes it.bytes.now) (sections_left it.ascending.now it.at it.scattered.now it.pointer it.number)
+    ++ (map (section_bytes it.bytes.now) it.sections
     ++ (option_to_list (option_copied it.extra)
     ++ option_to_list (option_copied it.fill)))))
+
+-- each of these sections ends inside a file of n bytes
+abbrev pub EndInside : ℕ → List SectionTable → Type 0
+EndInside n [] = Unit {0}
+EndInside n (s ∷ ss) = (s.pointer_to_raw_data + s.size_of_raw_data ≤ n) × EndInside n ss

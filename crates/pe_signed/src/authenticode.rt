@@ -6,10 +6,9 @@ ghost use Rattle.std.specs.Iterator.{YieldsFirstRef, item_count};
 ghost use Rattle.std.specs.Option.{option_copied, option_to_list};
 ghost use Rattle.pe_core.specs.Steps.{bytes_between};
 ghost use Rattle.pe_signed.specs.SignedRanges.{signed_ranges, checked_ranges, ranges_of, are_in_order, are_certificates_inside, bytes_hashed, by_pointer, fill_ranges, is_filled, is_outside, AreInside};
-ghost use Rattle.pe_signed.specs.RangesLeft.{sections_left};
 
 use crate::section_bytes::{bytes_of, demand_inside, raw_sizes_behind};
-use crate::section_order::{are_ascending, next_filled, next_section};
+use crate::sections_by_pointer::{SectionsByPointer, sections_by_pointer};
 use pe_core::pe_error::{Case, Error};
 use pe_core::section_table::SectionTable;
 use pe_core::steps::demand;
@@ -62,8 +61,9 @@ impl<'a> PE<'a> {
     /// The ranges that the signature covers, in order. Where no places are known, it is the whole file.
     ///
     /// It takes no memory. Where the pointers of the sections that have bytes ascend, as linkers write them, all the
-    /// ranges take one pass over the table; else each section takes a pass of its own, so that the time grows with the
-    /// square of the number of sections.
+    /// ranges take one pass over the table. In any other order each 64 sections take a pass, so that the time still
+    /// grows with the square of the number of sections: a list that can't be changed isn't sorted in a fixed room in
+    /// less. Tables of images have at most 65,535 sections.
     pub fn authenticode_ranges(&self) -> Result<ExcludedSectionsIter<'_>, Error>
         ensures { result ≡ signed_ranges self.now.bytes.now self.now.sections.now self.now.excluded }
     {
@@ -81,28 +81,21 @@ pub struct ExcludedSectionsIter<'s> {
     before_checksum: Option<&'s [u8]>,
     before_entry: Option<&'s [u8]>,
     before_header_end: Option<&'s [u8]>,
-    /// A table whose pointers ascend, else none; of it the sections from this number on are left.
-    ascending: &'s [SectionTable],
-    at: usize,
-    /// A table in another order, else none.
-    scattered: &'s [SectionTable],
-    /// By pointer and then number, the next of its sections doesn't come before these.
-    pointer: u32,
-    number: usize,
+    sections: SectionsByPointer<'s>,
     extra: Option<&'s [u8]>,
     fill: Option<&'s [u8]>,
 }
 
 impl<'s> Model for ExcludedSectionsIter<'s> {
     ghost use Rattle.std.specs.Prelude.{List, ℕ};
-    ghost use Rattle.pe_signed.specs.SignedRanges.{AreInside};
-    ghost use Rattle.pe_signed.specs.RangesLeft.{ranges_left};
+    ghost use Rattle.std.specs.Prelude.{length};
+    ghost use Rattle.pe_signed.specs.RangesLeft.{ranges_left, EndInside};
 
     ghost Value = { List (List ℕ) };
 
     ghost view = { ranges_left };
 
-    ghost invariant = { λ it. AreInside it.bytes.now it.ascending.now × AreInside it.bytes.now it.scattered.now };
+    ghost invariant = { λ it. EndInside (length it.bytes.now) it.sections };
 }
 
 impl<'s> Iterator for ExcludedSectionsIter<'s> {
@@ -112,7 +105,6 @@ impl<'s> Iterator for ExcludedSectionsIter<'s> {
 
     ghost remaining = { item_count (λ left. left) };
 
-    #[tactic(auto, using(crate::proofs::RangesLeft::no_ranges, crate::proofs::RangesLeft::next_ascending, crate::proofs::RangesLeft::held_inside, crate::proofs::RangesLeft::next_scattered, crate::proofs::RangesLeft::next_inside))]
     fn next(&mut self) -> Option<&'s [u8]> {
         if let Some(range) = self.before_checksum.take() {
             return Some(range);
@@ -123,14 +115,8 @@ impl<'s> Iterator for ExcludedSectionsIter<'s> {
         if let Some(range) = self.before_header_end.take() {
             return Some(range);
         }
-        if let Some(next) = next_filled(self.ascending, self.at) {
-            self.at = next.number + 1;
-            return Some(bytes_of(self.bytes, next.section));
-        }
-        if let Some(next) = next_section(self.scattered, self.pointer, self.number) {
-            self.pointer = next.section.pointer_to_raw_data;
-            self.number = next.number + 1;
-            return Some(bytes_of(self.bytes, next.section));
+        if let Some(section) = self.sections.next() {
+            return Some(bytes_of(self.bytes, section));
         }
         if let Some(range) = self.extra.take() {
             return Some(range);
@@ -140,7 +126,7 @@ impl<'s> Iterator for ExcludedSectionsIter<'s> {
 }
 
 /// The whole file as the one range.
-#[tactic(auto, unfolding(crate::specs::SignedRanges::by_pointer, crate::specs::SectionOrder::sections_from))]
+#[tactic(auto, unfolding(crate::specs::SignedRanges::by_pointer))]
 fn whole(bytes: &[u8]) -> ExcludedSectionsIter<'_>
     ensures { result ≡ bytes.now ∷ [] }
 {
@@ -149,11 +135,7 @@ fn whole(bytes: &[u8]) -> ExcludedSectionsIter<'_>
         before_checksum: Some(bytes),
         before_entry: None,
         before_header_end: None,
-        ascending: &[],
-        at: 0,
-        scattered: &[],
-        pointer: 0,
-        number: 0,
+        sections: sections_by_pointer(&[]),
         extra: None,
         fill: None,
     }
@@ -199,7 +181,7 @@ fn are_certificates_inside(hashed: usize, size: usize, len: usize) -> bool
 }
 
 /// The ranges of a file whose places were tested. `hashed` counts the bytes of the headers and of all sections.
-#[tactic(auto, unfolding(crate::specs::SignedRanges::ranges_of, byte_core::specs::Number::bytes_at))]
+#[tactic(auto, using(crate::proofs::RangesLeft::all_inside), unfolding(crate::specs::SignedRanges::ranges_of, byte_core::specs::Number::bytes_at))]
 fn ranges<'s>(
     bytes: &'s [u8],
     sections: &'s [SectionTable],
@@ -214,45 +196,24 @@ fn ranges<'s>(
 {
     let checksum = &excluded.checksum;
     let entry = &excluded.datadir_entry_certtable;
-    let table = in_order(sections);
     ExcludedSectionsIter {
         bytes,
         before_checksum: Some(&bytes[..checksum.start]),
-        before_entry: Some(&bytes[checksum.end..entry.start]),
+        before_entry: Some(before_entry(bytes, excluded)),
         before_header_end: Some(&bytes[entry.end..excluded.end_image_header]),
-        ascending: table.ascending,
-        at: 0,
-        scattered: table.scattered,
-        pointer: 0,
-        number: 0,
+        sections: sections_by_pointer(sections),
         extra: extra(bytes, hashed, excluded.certificate_table_size),
         fill: fill(bytes.len()),
     }
 }
 
-/// A section table as the whole of one of these, by its order.
-#[derive(Drop)]
-struct OrderedTable<'s> {
-    ascending: &'s [SectionTable],
-    scattered: &'s [SectionTable],
-}
-
-#[tactic(auto, using(crate::proofs::AscendingOrder::all_ascending, crate::proofs::AscendingOrder::all_scattered))]
-fn in_order(sections: &[SectionTable]) -> OrderedTable<'_>
-    ensures all { sections_left result.ascending.now 0 result.scattered.now 0 0 ≡ by_pointer (filter is_filled sections.now) }
-    ensures inside { (n : ℕ) → position (is_outside n) sections.now ≡ None → (position (is_outside n) result.ascending.now ≡ None) × (position (is_outside n) result.scattered.now ≡ None) }
+/// The bytes between the checksum and the certificate entry.
+#[tactic(auto, unfolding(byte_core::specs::Number::bytes_at))]
+fn before_entry<'s>(bytes: &'s [u8], excluded: &ExcludedSections) -> &'s [u8]
+    requires { IsTrue (are_in_order excluded.now (length bytes.now)) }
+    ensures { result.now ≡ bytes_between bytes.now excluded.now.checksum.end excluded.now.datadir_entry_certtable.start }
 {
-    if are_ascending(sections) {
-        OrderedTable {
-            ascending: sections,
-            scattered: &[],
-        }
-    } else {
-        OrderedTable {
-            ascending: &[],
-            scattered: sections,
-        }
-    }
+    &bytes[excluded.checksum.end..excluded.datadir_entry_certtable.start]
 }
 
 /// The bytes behind those counted, without the certificates.

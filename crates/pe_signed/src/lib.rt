@@ -4,7 +4,9 @@
 
 pub mod authenticode;
 mod laws;
+mod next_sections;
 mod section_bytes;
 mod section_order;
+mod sections_by_pointer;
 
 pub use laws::signed_file_law;

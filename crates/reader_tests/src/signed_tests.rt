@@ -66,6 +66,23 @@ fn a_table_in_the_order_of_its_pointers_gives_the_same_bytes(rt: HostRuntime) ->
 }
 
 #[test]
+fn seventy_sections_whose_pointers_fall_take_two_passes(rt: HostRuntime) -> Result<(), Fail> {
+    let mut bytes: Vec<u8> = Vec::new(rt.alloc());
+    let mut sections: Vec<SectionTable> = Vec::new(rt.alloc());
+    for place in 0..104u8 {
+        bytes.push(place)?;
+    }
+    for number in 0..70 {
+        sections.push(section(101 - number, 1))?;
+    }
+    let pe = PE::new(&bytes, &sections, Some(places(2)));
+    let signed = joined(rt.alloc(), &pe)?;
+    assert!(rt; signed.len() == 90);
+    assert!(rt; signed.get(20..) == bytes.get(32..102));
+    Ok(())
+}
+
+#[test]
 fn the_first_cause_refuses_a_file(rt: HostRuntime) {
     let outside = [section(44, 12), section(50, 12)];
     let short = PE::new(&BYTES[..31], &outside, Some(places(5)));

@@ -4,7 +4,7 @@ ghost use Rattle.std.specs.Prelude.{◌≡◌, Some};
 ghost use Rattle.cranelift_module.specs.declared.declaration_json.cause.JsonCause.TheVariants.{Allocation};
 ghost use Rattle.cranelift_module.specs.JsonTexts.{cause_of, json_cause_text};
 
-use crate::declaration_json::form::FormError;
+use json_form::FormError;
 use std::alloc::{AllocError, AllocFailed};
 use std::error::Error;
 use std::fmt;

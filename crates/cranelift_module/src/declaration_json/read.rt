@@ -2,18 +2,17 @@
 
 ghost use Rattle.std.specs.Prelude.{◌≡◌, ◌++◌, codes, IfOk, OnOk};
 ghost use Rattle.serde_json.specs.View.{view, items_view};
-ghost use Rattle.cranelift_module.specs.JsonForm.{Gives, each_of};
+ghost use Rattle.json_form.specs.Form.{Gives, each_of};
 ghost use Rattle.cranelift_module.specs.DeclarationForm.{param_of, params_at, signature_of, function_of, object_of};
 ghost use Rattle.cranelift_module.specs.DeclarationJson.{Reads, required, version_of, rows_at};
 
 use crate::declaration_json::cause::JsonCause;
-use crate::declaration_json::fields::{has_keys_within, items_at, mark_at, name_at, text_at};
-use crate::declaration_json::form::FormError;
 use crate::declaration_json::words::{
     convention_named, extension_named, linkage_named, purpose_named, type_named,
 };
 use crate::{DataDeclaration, FunctionDeclaration, VERSION};
 use ir_core::{AbiParam, CallConv, Signature};
+use json_form::{FormError, has_keys_within, items_at, mark_at, name_at, text_at};
 use serde_json::Value;
 use std::alloc::{AllocError, Global};
 

@@ -1,12 +1,12 @@
 //! The words for linkages, types, marks and calling conventions: the names of their variants.
 
 ghost use Rattle.std.specs.Prelude.{◌≡◌};
-ghost use Rattle.cranelift_module.specs.JsonForm.{Gives};
+ghost use Rattle.json_form.specs.Form.{Gives};
 ghost use Rattle.cranelift_module.specs.Words.{linkage_word, type_word, extension_word, purpose_word, convention_word, linkage_named, type_named, extension_named, purpose_named, convention_named};
 
 use crate::Linkage;
-use crate::declaration_json::form::FormError;
 use ir_core::{ArgumentExtension, ArgumentPurpose, CallConv, ValueType};
+use json_form::FormError;
 
 pub fn linkage_word(linkage: Linkage) -> &'static str
     ensures { result.now ≡ linkage_word linkage }

@@ -2,7 +2,8 @@
 
 ghost use Rattle.std.specs.Prelude.{◌≡◌, IfOk, map, option_map};
 ghost use Rattle.serde_json.specs.View.{view};
-ghost use Rattle.cranelift_module.specs.DeclarationForm.{list_value, name_value, param_value, signature_value, function_value, object_value};
+ghost use Rattle.json_form.specs.Written.{list_value};
+ghost use Rattle.cranelift_module.specs.DeclarationForm.{name_value, param_value, signature_value, function_value, object_value};
 ghost use Rattle.cranelift_module.specs.DeclarationJson.{value_of};
 
 use crate::declaration_json::words::{

@@ -3,15 +3,15 @@
 ghost use Rattle.std.specs.Prelude.{◌≡◌, map, [], IfOk};
 ghost use Rattle.serde_json.specs.View.{view, items_view};
 ghost use Rattle.cranelift_object.specs.Command.{command_view};
-ghost use Rattle.objtool_run.specs.Form.{Gives};
-ghost use Rattle.objtool_run.specs.Script.{linkage_of, declare_of, anonymous_of, declare_data_of, anonymous_data_of, define_of, command_of, commands_of};
+ghost use Rattle.json_form.specs.Form.{Gives};
+ghost use Rattle.objtool_run.specs.Script.{linkage_of, declare_of, anonymous_of, declare_data_of, anonymous_data_of, definition_by, data_command_by, command_of, commands_of};
 
-use crate::script::fields::{has_keys_within, hex_at, mark_at, text_at, u32_at};
-use crate::script::form::FormError;
+use crate::script::definition::{define_data_of, define_of};
 use crate::script::signature::signature_at;
-use cranelift_module::{FuncId, Linkage};
+use cranelift_module::Linkage;
 use cranelift_object::Command;
 use ir_core::CallConv;
+use json_form::{FormError, has_keys_within, mark_or, text_at};
 use serde_json::Value;
 use std::alloc::Global;
 
@@ -65,8 +65,8 @@ fn declare_data_of(alloc: Global, value: &Value) -> Result<Command, FormError>
     }
     let name = text_at(value, "name")?;
     let linkage = linkage_of(text_at(value, "linkage")?)?;
-    let writable = mark_at(value, "writable")?;
-    let tls = mark_at(value, "tls")?;
+    let writable = mark_or(value, "writable", false)?;
+    let tls = mark_or(value, "tls", false)?;
     Ok(Command::DeclareData {
         name: String::from_str(alloc, name)?,
         linkage,
@@ -82,26 +82,9 @@ fn anonymous_data_of(value: &Value) -> Result<Command, FormError>
     if !has_keys_within(value, &["op", "writable", "tls"]) {
         return Err(FormError::NotForm);
     }
-    let writable = mark_at(value, "writable")?;
-    let tls = mark_at(value, "tls")?;
+    let writable = mark_or(value, "writable", false)?;
+    let tls = mark_or(value, "tls", false)?;
     Ok(Command::DeclareAnonymousData { writable, tls })
-}
-
-#[tactic(auto, unfolding(crate::specs::Script::define_of))]
-fn define_of(alloc: Global, value: &Value) -> Result<Command, FormError>
-    ensures { Gives command_view result (define_of (view value.now)) }
-{
-    if !has_keys_within(value, &["op", "id", "bytes"]) {
-        return Err(FormError::NotForm);
-    }
-    let id = u32_at(value, "id")?;
-    let bytes = hex_at(alloc, value, "bytes")?;
-    Ok(Command::DefineFunction {
-        id: FuncId::from_u32(id),
-        align: 1,
-        bytes,
-        relocs: Vec::new(alloc),
-    })
 }
 
 #[tactic(auto, unfolding(crate::specs::Script::command_of))]
@@ -111,9 +94,26 @@ fn command_of(alloc: Global, convention: CallConv, value: &Value) -> Result<Comm
     match text_at(value, "op")? {
         "declare_function" => declare_of(alloc, convention, value),
         "declare_anonymous_function" => anonymous_of(alloc, convention, value),
+        op => data_command_by(alloc, op, value),
+    }
+}
+
+fn data_command_by(alloc: Global, op: &str, value: &Value) -> Result<Command, FormError>
+    ensures { Gives command_view result (data_command_by op.now (view value.now)) }
+{
+    match op {
         "declare_data" => declare_data_of(alloc, value),
         "declare_anonymous_data" => anonymous_data_of(value),
+        op => definition_by(alloc, op, value),
+    }
+}
+
+fn definition_by(alloc: Global, op: &str, value: &Value) -> Result<Command, FormError>
+    ensures { Gives command_view result (definition_by op.now (view value.now)) }
+{
+    match op {
         "define_function" => define_of(alloc, value),
+        "define_data" => define_data_of(alloc, value),
         _ => Err(FormError::NotForm),
     }
 }

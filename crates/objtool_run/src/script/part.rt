@@ -5,18 +5,17 @@ ghost use Rattle.std.specs.List.{All};
 ghost use Rattle.serde_json.specs.View.{view, items_view};
 ghost use Rattle.cranelift_object.specs.Command.{command_view};
 ghost use Rattle.image_build.specs.Parts.{part_view, IsBuildable};
-ghost use Rattle.objtool_run.specs.Form.{Gives};
+ghost use Rattle.json_form.specs.Form.{Gives};
 ghost use Rattle.objtool_run.specs.Script.{elf_target, part_of, part_with, parts_of, commands_of, StandsFor, HasFewCalls};
 ghost use Rattle.objtool_run.specs.Run.{ExplainsBuild, IsOfInput};
 
 use crate::fault::Fault;
 use crate::script::command::commands_of;
-use crate::script::fields::{has_keys_within, items_at, text_at};
-use crate::script::form::FormError;
 use cranelift_module::default_libcall_names;
 use cranelift_object::{Command, CommandPart};
 use image_build::Part;
 use ir_core::{Architecture, BinaryFormat, Environment, System, TargetIsa, Triple};
+use json_form::{FormError, has_keys_within, items_at, mark_or, text_at};
 use serde_json::Value;
 use std::alloc::{AllocError, Global};
 
@@ -37,12 +36,20 @@ fn elf_target(alloc: Global) -> TargetIsa
     TargetIsa::new(alloc, triple)
 }
 
-/// A part for x86_64 ELF, without options, with the usual library texts.
-fn part_with(alloc: Global, name: &str, commands: Vec<Command>) -> Result<Part, AllocError>
-    ensures { IfOk result (λ part. part_view part ≡ part_with name.now (map command_view commands.items)) }
+/// A part for x86_64 ELF, with these two section options and the usual library texts.
+fn part_with(
+    alloc: Global,
+    name: &str,
+    function_sections: bool,
+    data_sections: bool,
+    commands: Vec<Command>,
+) -> Result<Part, AllocError>
+    ensures { IfOk result (λ part. part_view part ≡ part_with name.now function_sections data_sections (map command_view commands.items)) }
 {
     let names = default_libcall_names(alloc)?;
     let mut part = CommandPart::new(alloc, name.as_bytes(), elf_target(alloc), names)?;
+    part.set_function_sections(function_sections);
+    part.set_data_sections(data_sections);
     part.set_commands(commands);
     Ok(Part::Commands(part))
 }
@@ -53,12 +60,22 @@ fn part_of(alloc: Global, value: &Value) -> Result<Part, FormError>
     ensures form { Gives part_view result (part_of (view value.now)) }
     ensures few { IfOk result (λ part. HasFewCalls (part_view part ∷ [])) }
 {
-    if !has_keys_within(value, &["name", "arch", "format", "commands"]) {
+    let keys = [
+        "name",
+        "arch",
+        "format",
+        "function_sections",
+        "data_sections",
+        "commands",
+    ];
+    if !has_keys_within(value, &keys) {
         return Err(FormError::NotForm);
     }
     let name = text_at(value, "name")?;
     let arch = text_at(value, "arch")?;
     let format = text_at(value, "format")?;
+    let function_sections = mark_or(value, "function_sections", false)?;
+    let data_sections = mark_or(value, "data_sections", false)?;
     let convention = elf_target(alloc).default_call_conv();
     let commands = commands_of(alloc, convention, items_at(value, "commands")?)?;
     if commands.len() >= COMMAND_LIMIT {
@@ -67,7 +84,7 @@ fn part_of(alloc: Global, value: &Value) -> Result<Part, FormError>
     if arch != "x86_64" || format != "elf" {
         return Err(FormError::NotForm);
     }
-    Ok(part_with(alloc, name, commands)?)
+    Ok(part_with(alloc, name, function_sections, data_sections, commands)?)
 }
 
 /// The parts that a list stands for: one, so far.

@@ -3,12 +3,11 @@
 ghost use Rattle.std.specs.Prelude.{◌≡◌, ◌++◌, IfOk, OnOk, [], codes};
 ghost use Rattle.serde_json.specs.View.{view, items_view};
 ghost use Rattle.serde_json.specs.Find.{get, as_str};
-ghost use Rattle.objtool_run.specs.Form.{Gives, or_else};
+ghost use Rattle.json_form.specs.Form.{Gives, or_else};
 ghost use Rattle.objtool_run.specs.SignatureForm.{type_named, extension_named, purpose_named, convention_named, extension_of, purpose_of, convention_of, param_object, param_of, params_in, params_of, signature_object, signature_at};
 
-use crate::script::fields::{has_keys_within, text_at};
-use crate::script::form::FormError;
 use ir_core::{AbiParam, ArgumentExtension, ArgumentPurpose, CallConv, Signature, ValueType};
+use json_form::{FormError, has_keys_within, text_at};
 use serde_json::Value;
 use std::alloc::{AllocError, Global};
 

@@ -1,5 +1,3 @@
-use Rattle.std.proofs.Common.{◌≡◌, sym, subst}
-use Rattle.objtool_run.specs.Ends.{Ends}
 use Rattle.objtool_run.proofs.Endings.{ends_told}
 use Rattle.objtool_run.proofs.program.run.Goals as goal
 

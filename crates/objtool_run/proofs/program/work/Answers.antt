@@ -1,4 +1,4 @@
-use Rattle.std.proofs.Common.{◌≡◌, ◌∙◌, Err, ap, sym, refl}
+use Rattle.std.proofs.Common.{◌∙◌, Err, ap, sym, refl}
 use Rattle.objtool_run.proofs.Endings.{same_fault, not_an_error, ends_fault, ends_written, ends_unwritten}
 use Rattle.objtool_run.proofs.program.work.Goals as goal
 

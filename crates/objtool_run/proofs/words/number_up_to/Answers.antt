@@ -1,4 +1,4 @@
-use Rattle.std.proofs.Common.{◌≡◌, ◌∙◌, ap, sym}
+use Rattle.std.proofs.Common.{◌∙◌, ap, sym}
 use Rattle.objtool_run.specs.Words.{is_number}
 use Rattle.objtool_run.proofs.NumberWords.{number_none}
 use Rattle.objtool_run.proofs.words.number_up_to.Goals as goal

@@ -1,4 +1,4 @@
-use Rattle.std.proofs.Common.{◌≡◌, sym, string_bytes}
+use Rattle.std.proofs.Common.{sym, string_bytes}
 use Rattle.objtool_run.proofs.NumberWords.{two_words, many_words}
 use Rattle.objtool_run.proofs.words.request_of.Goals as goal
 

@@ -8,4 +8,4 @@ pub returns : goal.returns
 unfolding ranges_of bytes_at
 returns c =
     let fits : length c.args.bytes.now < 2 ^ 64 = grind arith in
-    rw (c.in_order-table.ensures.all, c.extra.ensures, c.fill.ensures, extra_same c.args.bytes.now c.args.sections.now c.args.excluded.now c.args.hashed fits c.requires.counted) refl
+    rw (c.before_entry.ensures, c.sections_by_pointer.ensures, c.extra.ensures, c.fill.ensures, extra_same c.args.bytes.now c.args.sections.now c.args.excluded.now c.args.hashed fits c.requires.counted) refl

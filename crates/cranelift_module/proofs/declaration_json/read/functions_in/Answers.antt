@@ -2,7 +2,7 @@ use Rattle.std.proofs.Common.{◌∙◌, ap, Some}
 use Rattle.std.proofs.lemmas.List.{map-id}
 use Rattle.cranelift_module.specs.Rows.{FunctionRow}
 use Rattle.cranelift_module.specs.DeclarationForm.{function_of}
-use Rattle.cranelift_module.proofs.EachOf.{each_step, each_stop, each_end}
+use Rattle.json_form.proofs.EachOf.{each_step, each_stop, each_end}
 use Rattle.cranelift_module.proofs.declaration_json.read.functions_in.Goals as goal
 
 pub returns-in-Err : goal.returns-in-Err

@@ -1,8 +1,8 @@
 use Rattle.std.proofs.Common.{◌≡◌, drop, map}
 use Rattle.serde_json.specs.View.{items_view}
-use Rattle.cranelift_module.specs.JsonForm.{each_of}
+use Rattle.json_form.specs.Form.{each_of}
 use Rattle.cranelift_module.specs.DeclarationForm.{object_of}
-use Rattle.cranelift_module.proofs.EachOf.{with_front}
+use Rattle.json_form.proofs.EachOf.{with_front}
 use Rattle.cranelift_module.proofs.declaration_json.read.objects_in.Given as goal
 
 -- the data objects so far, and those of the rest, are all data objects

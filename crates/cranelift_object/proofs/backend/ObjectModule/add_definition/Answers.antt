@@ -1,79 +1,133 @@
-use Rattle.std.proofs.Common.{◌≡◌, ◌<◌, length, get_or, ap, ◌∙◌, subst, arith}
-use Rattle.ir_core.specs.Target.{Target, symbol_alignment}
+use Rattle.std.proofs.Common.{◌≡◌, ◌<◌, ◌^◌, length, map, get_or, ap, ◌∙◌, subst, arith}
 use Rattle.object_core.specs.Object.{ObjectData}
+use Rattle.cranelift_module.specs.Definitions.{Definition}
 use Rattle.cranelift_object.specs.Opened.{OpenModule}
-use Rattle.cranelift_object.specs.Kept.{IsModule}
+use Rattle.cranelift_object.specs.Kept.{IsModule, Marks}
+use Rattle.cranelift_object.specs.SectionClass.{is_counted}
+use Rattle.cranelift_object.specs.Linked.{object_relocation}
+use Rattle.cranelift_object.specs.Product.{symbol_number, with_relocations}
+use Rattle.cranelift_object.proofs.ClassLaws.{used_unshared}
 use Rattle.cranelift_object.proofs.ObjectLaws.{partial_format}
-use Rattle.cranelift_object.proofs.DefineLaws.{adding, opened_undefined, opened_bytes, opened_sum, marks_length, align_power, symbol_in_row, later_is, section_is, adds}
+use Rattle.cranelift_object.proofs.FinishLaws.{declared_targets}
+use Rattle.cranelift_object.proofs.DefineLaws.{adding, body_at, aligned_power, opened_undefined, opened_stored, opened_sum, opened_there, opened_offset, later_is, section_is, contents_sections, adds}
 use Rattle.cranelift_object.proofs.backend.ObjectModule.add_definition.Goals as goal
 
-pub section_of-requires : goal.section_of-requires
-section_of-requires c =
-    let h = subst (λ (o : OpenModule). IsModule o (record { functions = c.self.inside.defined.items; objects = c.self.inside.defined_objects.items })) c.self.view_is c.self.invariant in
+pub open_section-requires-clause-format : goal.open_section-requires-clause-format
+open_section-requires-clause-format c =
+    let marks : Marks = record { functions = c.self.inside.defined.items; objects = c.self.inside.defined_objects.items } in
+    let h = subst (λ (o : OpenModule). IsModule o marks) c.self.view_is c.self.invariant in
     ap (λ (o : ObjectData). o.format) c.requires.before ∙ partial_format c.args.self.now.settings c.args.self.now.state _ ∙ h.begun.format
 
-pub bounds-functions-function : goal.bounds-functions-function
-bounds-functions-function c =
-    let h = subst (λ (o : OpenModule). IsModule o (record { functions = c.self.inside.defined.items; objects = c.self.inside.defined_objects.items })) c.self.view_is c.self.invariant in
-    let there : c.index-definition.result.now ≡ get_or c.args.self.now.state.definitions c.args.number c.index-definition.result.now =
-    c.index-definition.ensures ∙ ap (λ (o : OpenModule). get_or o.state.definitions c.args.number c.index-definition.result.now) c.self.view_is
-    in
-    let add = adding c.args.self.now _ c.args.number c.function.result c.contents-contents.result.now c.index-definition.result.now h c.requires.number there c.function.ensures c.contents-contents.ensures in
-    omega (arith, add.declared, c.as_u32-function.ensures, marks_length c.args.self.now.state, ap length c.requires.functions)
+pub open_section-requires-clause-used : goal.open_section-requires-clause-used
+open_section-requires-clause-used c used =
+    let marks : Marks = record { functions = c.self.inside.defined.items; objects = c.self.inside.defined_objects.items } in
+    let h = subst (λ (o : OpenModule). IsModule o marks) c.self.view_is c.self.invariant in
+    let d : Definition = c.index-definition.result.now in
+    let there : d ≡ get_or c.args.self.now.state.definitions c.args.number d = c.index-definition.ensures ∙ ap (λ (o : OpenModule). get_or o.state.definitions c.args.number d) c.self.view_is in
+    let at = adding c.args.self.now c.args.number d c.requires.number there in
+    let body = body_at c.args.self.now marks c.args.number d h at in
+    used_unshared c.args.self.now.settings c.args.self.now.state d body.plain used
 
-pub bounds-functions-function-in_ok-section : goal.bounds-functions-function-in_ok-section
-bounds-functions-function-in_ok-section c =
-    let h = subst (λ (o : OpenModule). IsModule o (record { functions = c.self.inside.defined.items; objects = c.self.inside.defined_objects.items })) c.self.view_is c.self.invariant in
-    let there : c.index-definition.result.now ≡ get_or c.args.self.now.state.definitions c.args.number c.index-definition.result.now =
-    c.index-definition.ensures ∙ ap (λ (o : OpenModule). get_or o.state.definitions c.args.number c.index-definition.result.now) c.self.view_is
-    in
-    let add = adding c.args.self.now _ c.args.number c.function.result c.contents-contents.result.now c.index-definition.result.now h c.requires.number there c.function.ensures c.contents-contents.ensures in
-    omega (arith, add.declared, c.as_u32-function.ensures, marks_length c.args.self.now.state, ap length c.requires.functions)
+pub symbol_of-symbol-requires-clause-declared : goal.symbol_of-symbol-requires-clause-declared
+symbol_of-symbol-requires-clause-declared c =
+    let marks : Marks = record { functions = c.self.inside.defined.items; objects = c.self.inside.defined_objects.items } in
+    let h = subst (λ (o : OpenModule). IsModule o marks) c.self.view_is c.self.invariant in
+    let d : Definition = c.index-definition.result.now in
+    let there : d ≡ get_or c.args.self.now.state.definitions c.args.number d = c.index-definition.ensures ∙ ap (λ (o : OpenModule). get_or o.state.definitions c.args.number d) c.self.view_is in
+    let at = adding c.args.self.now c.args.number d c.requires.number there in
+    let body = body_at c.args.self.now marks c.args.number d h at in
+    rw c.identifier.ensures body.declared
 
-pub add_symbol_data-requires-clause-power : goal.add_symbol_data-requires-clause-power
-add_symbol_data-requires-clause-power c =
-    rw c.symbol_alignment-align.ensures (align_power _)
+pub add_contents-requires-clause-power : goal.add_contents-requires-clause-power
+add_contents-requires-clause-power c =
+    let marks : Marks = record { functions = c.self.inside.defined.items; objects = c.self.inside.defined_objects.items } in
+    let h = subst (λ (o : OpenModule). IsModule o marks) c.self.view_is c.self.invariant in
+    let d : Definition = c.index-definition.result.now in
+    let there : d ≡ get_or c.args.self.now.state.definitions c.args.number d = c.index-definition.ensures ∙ ap (λ (o : OpenModule). get_or o.state.definitions c.args.number d) c.self.view_is in
+    let at = adding c.args.self.now c.args.number d c.requires.number there in
+    let body = body_at c.args.self.now marks c.args.number d h at in
+    rw c.alignment_of-align.ensures (aligned_power c.args.self.now.state d body.aligned)
 
-pub add_symbol_data-requires-clause-symbol : goal.add_symbol_data-requires-clause-symbol
-add_symbol_data-requires-clause-symbol c =
-    let h = subst (λ (o : OpenModule). IsModule o (record { functions = c.self.inside.defined.items; objects = c.self.inside.defined_objects.items })) c.self.view_is c.self.invariant in
-    let there : c.index-definition.result.now ≡ get_or c.args.self.now.state.definitions c.args.number c.index-definition.result.now =
-    c.index-definition.ensures ∙ ap (λ (o : OpenModule). get_or o.state.definitions c.args.number c.index-definition.result.now) c.self.view_is
-    in
-    let add = adding c.args.self.now _ c.args.number c.function.result c.contents-contents.result.now c.index-definition.result.now h c.requires.number there c.function.ensures c.contents-contents.ensures in
-    let later = later_is c.args.self.now.settings c.args.self.now.state _ _ _ c.function.result c.contents-contents.result.now c.requires.before c.in_ok-section.ensures.opened in
-    let row = symbol_in_row c.args.self.now _ _ c.as_u32-function.result c.function.result c.index-functions-function.result h c.requires.functions add.declared c.as_u32-function.ensures in
-    rw (later, row) (opened_undefined c.args.self.now _ c.args.number c.function.result c.contents-contents.result.now h add.found add.declared)
+pub add_contents-requires-clause-symbol : goal.add_contents-requires-clause-symbol
+add_contents-requires-clause-symbol c =
+    let marks : Marks = record { functions = c.self.inside.defined.items; objects = c.self.inside.defined_objects.items } in
+    let h = subst (λ (o : OpenModule). IsModule o marks) c.self.view_is c.self.invariant in
+    let d : Definition = c.index-definition.result.now in
+    let there : d ≡ get_or c.args.self.now.state.definitions c.args.number d = c.index-definition.ensures ∙ ap (λ (o : OpenModule). get_or o.state.definitions c.args.number d) c.self.view_is in
+    let at = adding c.args.self.now c.args.number d c.requires.number there in
+    let later = later_is c.args.self.now marks c.args.number d c.args.object.now c.open_section.new.object h at c.requires.before c.in_ok-section.ensures.opened in
+    let place = section_is c.args.self.now c.args.number d c.args.object.now c.in_ok-section.section c.requires.before c.in_ok-section.ensures.id in
+    let symbol = c.symbol_of-symbol.ensures ∙ ap (symbol_number c.args.self.now.state) c.identifier.ensures in
+    rw (later, symbol) (opened_undefined c.args.self.now marks c.args.number d h at)
 
-pub add_symbol_data-requires-clause-section : goal.add_symbol_data-requires-clause-section
-add_symbol_data-requires-clause-section c =
-    let h = subst (λ (o : OpenModule). IsModule o (record { functions = c.self.inside.defined.items; objects = c.self.inside.defined_objects.items })) c.self.view_is c.self.invariant in
-    let there : c.index-definition.result.now ≡ get_or c.args.self.now.state.definitions c.args.number c.index-definition.result.now =
-    c.index-definition.ensures ∙ ap (λ (o : OpenModule). get_or o.state.definitions c.args.number c.index-definition.result.now) c.self.view_is
-    in
-    let add = adding c.args.self.now _ c.args.number c.function.result c.contents-contents.result.now c.index-definition.result.now h c.requires.number there c.function.ensures c.contents-contents.ensures in
-    let later = later_is c.args.self.now.settings c.args.self.now.state _ _ _ c.function.result c.contents-contents.result.now c.requires.before c.in_ok-section.ensures.opened in
-    let place = section_is c.args.self.now.settings c.args.self.now.state _ _ _ c.function.result c.contents-contents.result.now c.requires.before c.in_ok-section.ensures.id in
-    rw (later, place) (opened_bytes c.args.self.now _ c.args.number _ h add.found)
+pub add_contents-requires-clause-section : goal.add_contents-requires-clause-section
+add_contents-requires-clause-section c =
+    let marks : Marks = record { functions = c.self.inside.defined.items; objects = c.self.inside.defined_objects.items } in
+    let h = subst (λ (o : OpenModule). IsModule o marks) c.self.view_is c.self.invariant in
+    let d : Definition = c.index-definition.result.now in
+    let there : d ≡ get_or c.args.self.now.state.definitions c.args.number d = c.index-definition.ensures ∙ ap (λ (o : OpenModule). get_or o.state.definitions c.args.number d) c.self.view_is in
+    let at = adding c.args.self.now c.args.number d c.requires.number there in
+    let later = later_is c.args.self.now marks c.args.number d c.args.object.now c.open_section.new.object h at c.requires.before c.in_ok-section.ensures.opened in
+    let place = section_is c.args.self.now c.args.number d c.args.object.now c.in_ok-section.section c.requires.before c.in_ok-section.ensures.id in
+    rw (later, place) (opened_stored c.args.self.now marks c.args.number d h at)
 
-pub add_symbol_data-requires-clause-sum : goal.add_symbol_data-requires-clause-sum
-add_symbol_data-requires-clause-sum c =
-    let h = subst (λ (o : OpenModule). IsModule o (record { functions = c.self.inside.defined.items; objects = c.self.inside.defined_objects.items })) c.self.view_is c.self.invariant in
-    let there : c.index-definition.result.now ≡ get_or c.args.self.now.state.definitions c.args.number c.index-definition.result.now =
-    c.index-definition.ensures ∙ ap (λ (o : OpenModule). get_or o.state.definitions c.args.number c.index-definition.result.now) c.self.view_is
-    in
-    let add = adding c.args.self.now _ c.args.number c.function.result c.contents-contents.result.now c.index-definition.result.now h c.requires.number there c.function.ensures c.contents-contents.ensures in
-    let later = later_is c.args.self.now.settings c.args.self.now.state _ _ _ c.function.result c.contents-contents.result.now c.requires.before c.in_ok-section.ensures.opened in
-    let few : length c.args.self.now.state.definitions < 9223372036854775808 = omega (arith, c.self.inside.definitions.small, c.self.inside.definitions.ok.0, ap (λ (o : OpenModule). length o.state.definitions) c.self.view_is) in
-    rw later (opened_sum c.args.self.now _ c.args.number _ h few)
+pub add_contents-requires-clause-sum : goal.add_contents-requires-clause-sum
+add_contents-requires-clause-sum c =
+    let marks : Marks = record { functions = c.self.inside.defined.items; objects = c.self.inside.defined_objects.items } in
+    let h = subst (λ (o : OpenModule). IsModule o marks) c.self.view_is c.self.invariant in
+    let d : Definition = c.index-definition.result.now in
+    let there : d ≡ get_or c.args.self.now.state.definitions c.args.number d = c.index-definition.ensures ∙ ap (λ (o : OpenModule). get_or o.state.definitions c.args.number d) c.self.view_is in
+    let at = adding c.args.self.now c.args.number d c.requires.number there in
+    let later = later_is c.args.self.now marks c.args.number d c.args.object.now c.open_section.new.object h at c.requires.before c.in_ok-section.ensures.opened in
+    let place = section_is c.args.self.now c.args.number d c.args.object.now c.in_ok-section.section c.requires.before c.in_ok-section.ensures.id in
+    let few : length c.args.self.now.state.definitions < 2 ^ 63 = omega (arith, c.self.inside.definitions.small, c.self.inside.definitions.ok.0, ap (λ (o : OpenModule). length o.state.definitions) c.self.view_is) in
+    rw later (opened_sum c.args.self.now marks c.args.number d h few)
+
+pub add_relocations-requires-clause-section : goal.add_relocations-requires-clause-section
+add_relocations-requires-clause-section c =
+    let marks : Marks = record { functions = c.self.inside.defined.items; objects = c.self.inside.defined_objects.items } in
+    let h = subst (λ (o : OpenModule). IsModule o marks) c.self.view_is c.self.invariant in
+    let d : Definition = c.index-definition.result.now in
+    let there : d ≡ get_or c.args.self.now.state.definitions c.args.number d = c.index-definition.ensures ∙ ap (λ (o : OpenModule). get_or o.state.definitions c.args.number d) c.self.view_is in
+    let at = adding c.args.self.now c.args.number d c.requires.number there in
+    let later = later_is c.args.self.now marks c.args.number d c.args.object.now c.open_section.new.object h at c.requires.before c.in_ok-section.ensures.opened in
+    let place = section_is c.args.self.now c.args.number d c.args.object.now c.in_ok-section.section c.requires.before c.in_ok-section.ensures.id in
+    let same = contents_sections (is_counted d) c.open_section.new.object c.add_contents.new.object c.symbol_of-symbol.result c.in_ok-section.section c.alignment_of-align.result d.contents c.in_ok-offset.ensures.ok in
+    let inside = opened_there c.args.self.now marks c.args.number d h at in
+    omega (arith, same, ap (λ (o : ObjectData). length o.sections) later, place, inside)
+
+pub add_relocations-requires-clause-targets : goal.add_relocations-requires-clause-targets
+add_relocations-requires-clause-targets c =
+    let marks : Marks = record { functions = c.self.inside.defined.items; objects = c.self.inside.defined_objects.items } in
+    let h = subst (λ (o : OpenModule). IsModule o marks) c.self.view_is c.self.invariant in
+    let d : Definition = c.index-definition.result.now in
+    let there : d ≡ get_or c.args.self.now.state.definitions c.args.number d = c.index-definition.ensures ∙ ap (λ (o : OpenModule). get_or o.state.definitions c.args.number d) c.self.view_is in
+    let at = adding c.args.self.now c.args.number d c.requires.number there in
+    let body = body_at c.args.self.now marks c.args.number d h at in
+    rw c.relocs.ensures (declared_targets c.args.self.now.state c.args.number d body.targets at c.requires.targets)
+
+pub add_relocations-requires-clause-offset : goal.add_relocations-requires-clause-offset
+add_relocations-requires-clause-offset c =
+    let marks : Marks = record { functions = c.self.inside.defined.items; objects = c.self.inside.defined_objects.items } in
+    let h = subst (λ (o : OpenModule). IsModule o marks) c.self.view_is c.self.invariant in
+    let d : Definition = c.index-definition.result.now in
+    let there : d ≡ get_or c.args.self.now.state.definitions c.args.number d = c.index-definition.ensures ∙ ap (λ (o : OpenModule). get_or o.state.definitions c.args.number d) c.self.view_is in
+    let at = adding c.args.self.now c.args.number d c.requires.number there in
+    let later = later_is c.args.self.now marks c.args.number d c.args.object.now c.open_section.new.object h at c.requires.before c.in_ok-section.ensures.opened in
+    let place = section_is c.args.self.now c.args.number d c.args.object.now c.in_ok-section.section c.requires.before c.in_ok-section.ensures.id in
+    let few : length c.args.self.now.state.definitions < 2 ^ 63 = omega (arith, c.self.inside.definitions.small, c.self.inside.definitions.ok.0, ap (λ (o : OpenModule). length o.state.definitions) c.self.view_is) in
+    rw (c.in_ok-offset.ensures.offset, later, place, c.alignment_of-align.ensures) (opened_offset c.args.self.now marks c.args.number d h few at)
 
 pub returns : goal.returns
 returns c =
-    let h = subst (λ (o : OpenModule). IsModule o (record { functions = c.self.inside.defined.items; objects = c.self.inside.defined_objects.items })) c.self.view_is c.self.invariant in
-    let there : c.index-definition.result.now ≡ get_or c.args.self.now.state.definitions c.args.number c.index-definition.result.now =
-    c.index-definition.ensures ∙ ap (λ (o : OpenModule). get_or o.state.definitions c.args.number c.index-definition.result.now) c.self.view_is
-    in
-    let add = adding c.args.self.now _ c.args.number c.function.result c.contents-contents.result.now c.index-definition.result.now h c.requires.number there c.function.ensures c.contents-contents.ensures in
-    let row = symbol_in_row c.args.self.now _ _ c.as_u32-function.result c.function.result c.index-functions-function.result h c.requires.functions add.declared c.as_u32-function.ensures in
-    let aligned = c.symbol_alignment-align.ensures ∙ ap (λ (t : Target). symbol_alignment t.triple.architecture) (c.isa.ensures ∙ ap (λ (o : OpenModule). o.state.target) c.self.view_is) in
-    adds c.args.self.now _ c.args.number c.function.result _ _ _ c.contents-contents.result.now _ _ _ h add c.requires.before c.in_ok-section.ensures.opened c.in_ok-section.ensures.id row aligned c.in_ok-add_symbol_data.ensures.ok
+    let marks : Marks = record { functions = c.self.inside.defined.items; objects = c.self.inside.defined_objects.items } in
+    let h = subst (λ (o : OpenModule). IsModule o marks) c.self.view_is c.self.invariant in
+    let d : Definition = c.index-definition.result.now in
+    let there : d ≡ get_or c.args.self.now.state.definitions c.args.number d = c.index-definition.ensures ∙ ap (λ (o : OpenModule). get_or o.state.definitions c.args.number d) c.self.view_is in
+    let at = adding c.args.self.now c.args.number d c.requires.number there in
+    let later = later_is c.args.self.now marks c.args.number d c.args.object.now c.open_section.new.object h at c.requires.before c.in_ok-section.ensures.opened in
+    let place = section_is c.args.self.now c.args.number d c.args.object.now c.in_ok-section.section c.requires.before c.in_ok-section.ensures.id in
+    let symbol = c.symbol_of-symbol.ensures ∙ ap (symbol_number c.args.self.now.state) c.identifier.ensures in
+    let rest = ap (λ rs. with_relocations c.add_contents.new.object c.in_ok-section.section (map (object_relocation c.args.self.now.settings c.args.self.now.state c.in_ok-offset.offset) rs)) c.relocs.ensures in
+    adds c.args.self.now marks c.args.number c.symbol_of-symbol.result c.in_ok-section.section c.alignment_of-align.result c.in_ok-offset.offset d c.open_section.new.object c.add_contents.new.object c.add_relocations.new.object h at later place symbol c.alignment_of-align.ensures
+    c.in_ok-offset.ensures.offset c.in_ok-offset.ensures.ok (c.in_ok-add_relocations.ensures ∙ rest)

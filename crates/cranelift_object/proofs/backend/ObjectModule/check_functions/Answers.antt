@@ -1,11 +1,8 @@
-use Rattle.std.proofs.Common.{◌≡◌, ◌<◌, map, length, ap, ◌∙◌, subst, arith}
-use Rattle.std.specs.List.{enumerate_from}
-use Rattle.std.specs.Option.{option_or}
-use Rattle.cranelift_module.specs.Refusal.{first_cause}
+use Rattle.std.proofs.Common.{◌<◌, length, ap, ◌∙◌, arith}
 use Rattle.cranelift_object.specs.Opened.{OpenModule}
-use Rattle.cranelift_object.specs.EndCause.{end_cause, missing_function, missing_data, function_missing}
+use Rattle.cranelift_object.specs.EndCause.{missing_function, function_missing}
 use Rattle.cranelift_object.proofs.CallLaws.{tells_first, option_or_first}
-use Rattle.cranelift_object.proofs.FinishLaws.{end_plain, missing_step}
+use Rattle.cranelift_object.proofs.FinishLaws.{missing_step}
 use Rattle.cranelift_object.proofs.backend.ObjectModule.check_functions.Goals as goal
 
 pub returns-in-Err-clause-cause : goal.returns-in-Err-clause-cause
@@ -19,9 +16,3 @@ loop-number-preserved c =
     let count = ap (λ (o : OpenModule). length o.state.functions) c.self.view_is in
     let below : c.loop-number.number < length c.args.self.now.state.functions = omega (arith, c.loop-number-test.true, c.len-number-end.ensures, c.self.inside.defined.ok.0, c.self.invariant.marked, count) in
     c.loop-number.invariant ∙ missing_step (missing_function c.args.self.now.state) c.args.self.now.state.functions c.loop-number.number below ∙ option_or_first (function_missing c.args.self.now.state c.loop-number.number) _ (rw (← c.from_u32.ensures) c.in_default.ensures.none)
-
-pub returns-clause-parts : goal.returns-clause-parts
-returns-clause-parts c = subst (λ (o : OpenModule). end_cause o.state ≡ option_or (first_cause (map (missing_function o.state) (enumerate_from 0 o.state.functions))) (first_cause (map (missing_data o.state) (enumerate_from 0 o.state.objects)))) c.self.view_is (end_plain _ _ c.self.invariant)
-
-pub returns-in-Err-clause-parts : goal.returns-in-Err-clause-parts
-returns-in-Err-clause-parts c = subst (λ (o : OpenModule). end_cause o.state ≡ option_or (first_cause (map (missing_function o.state) (enumerate_from 0 o.state.functions))) (first_cause (map (missing_data o.state) (enumerate_from 0 o.state.objects)))) c.self.view_is (end_plain _ _ c.self.invariant)

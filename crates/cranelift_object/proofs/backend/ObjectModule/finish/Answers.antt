@@ -1,6 +1,7 @@
 use Rattle.std.proofs.Common.{◌∙◌, subst}
 use Rattle.cranelift_object.specs.Opened.{OpenModule}
 use Rattle.cranelift_object.specs.Kept.{IsModule}
+use Rattle.cranelift_object.proofs.FinishLaws.{end_targets}
 use Rattle.cranelift_object.proofs.FormedLaws.{writable}
 use Rattle.cranelift_object.proofs.DefineLaws.{product_is}
 use Rattle.cranelift_object.proofs.backend.ObjectModule.finish.Goals as goal
@@ -12,4 +13,7 @@ returns-clause-ok c =
 pub new-requires : goal.new-requires
 new-requires c =
     let h = subst (λ (o : OpenModule). IsModule o (record { functions = c.self.inside.defined.items; objects = c.self.inside.defined_objects.items })) c.self.view_is c.self.invariant in
-    writable c.args.self _ _ h c.in_ok-add_definitions.ensures
+    writable c.args.self _ _ h (end_targets c.args.self.state c.in_default.ensures.none) c.in_ok-add_definitions.ensures
+
+pub add_definitions-requires-clause-targets : goal.add_definitions-requires-clause-targets
+add_definitions-requires-clause-targets c = end_targets c.args.self.state c.in_default.ensures.none

@@ -1,6 +1,6 @@
 use Rattle.cranelift_object.specs.Command.{command_view}
 use Rattle.objtool_run.specs.Script.{command_of}
-use Rattle.objtool_run.proofs.EachOf.{each_step, each_stop, each_end}
+use Rattle.json_form.proofs.EachOf.{each_step, each_stop, each_end}
 use Rattle.objtool_run.proofs.script.command.commands_of.Goals as goal
 
 pub returns-in-Err : goal.returns-in-Err

@@ -2,7 +2,7 @@ use Rattle.std.proofs.Common.{◌∙◌, ap, Some}
 use Rattle.std.proofs.lemmas.List.{map-id}
 use Rattle.ir_core.specs.declared.signature.AbiParam.{AbiParam}
 use Rattle.objtool_run.specs.SignatureForm.{param_of}
-use Rattle.objtool_run.proofs.EachOf.{each_step, each_stop, each_end}
+use Rattle.json_form.proofs.EachOf.{each_step, each_stop, each_end}
 use Rattle.objtool_run.proofs.script.signature.params_in.Goals as goal
 
 pub returns-in-Err : goal.returns-in-Err

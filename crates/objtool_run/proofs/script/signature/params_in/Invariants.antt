@@ -1,8 +1,8 @@
 use Rattle.std.proofs.Common.{◌≡◌, drop, map}
 use Rattle.serde_json.specs.View.{items_view}
-use Rattle.objtool_run.specs.Form.{each_of}
+use Rattle.json_form.specs.Form.{each_of}
 use Rattle.objtool_run.specs.SignatureForm.{param_of}
-use Rattle.objtool_run.proofs.EachOf.{with_front}
+use Rattle.json_form.proofs.EachOf.{with_front}
 use Rattle.objtool_run.proofs.script.signature.params_in.Given as goal
 
 -- the parameters so far, and those of the rest, are all parameters

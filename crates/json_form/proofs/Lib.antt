@@ -1,0 +1,4 @@
+pub mod Keys
+pub mod EachOf
+mod Ascending
+pub mod Plain

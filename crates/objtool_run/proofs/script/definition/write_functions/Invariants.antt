@@ -1,0 +1,6 @@
+use Rattle.std.proofs.Common.{◌≡◌, ◌++◌, take}
+use Rattle.objtool_run.proofs.script.definition.write_functions.Given as goal
+
+-- those so far stand behind what was there
+abbrev pub invariant-loop-address : goal.invariant-loop-address
+invariant-loop-address l = l.desc ≡ record l.fn.desc { function_relocs = l.fn.desc.function_relocs ++ take l.address-index l.addresses }

@@ -1,6 +1,0 @@
-use Rattle.std.proofs.Common.{◌∙◌}
-use Rattle.objtool_run.proofs.Keys.{keys_within-view}
-use Rattle.objtool_run.proofs.script.fields.has_keys_within.Goals as goal
-
-pub returns-in-Some : goal.returns-in-Some
-returns-in-Some c = rw (← c.in-Some.ensures) (c.are_among.ensures ∙ keys_within-view c.args.keys.now c.in-Some.members.now.entries)

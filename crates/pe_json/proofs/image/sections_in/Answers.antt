@@ -1,0 +1,17 @@
+use Rattle.std.proofs.Common.{◌∙◌, ap, Some}
+use Rattle.std.proofs.lemmas.List.{map-id}
+use Rattle.pe_core.specs.declared.section_table.SectionTable.{SectionTable}
+use Rattle.json_form.proofs.EachOf.{each_step, each_stop, each_end}
+use Rattle.pe_json.specs.Image.{section_of}
+use Rattle.pe_json.proofs.image.sections_in.Goals as goal
+
+pub returns-in-Err : goal.returns-in-Err
+returns-in-Err c = each_stop section_of c.args.values.now c.loop-value.value-index c.value-item.result _ c.in-Err.error _ c.loop-value-test.true c.value-item.is c.loop-value.invariant c.in-Err.ensures
+
+pub loop-value-preserved : goal.loop-value-preserved
+loop-value-preserved c =
+    each_step section_of (λ (s : SectionTable). s) c.args.values.now c.loop-value.value-index c.value-item.result c.loop-value.sections.items c.push.new.self.items c.in-Ok.section _
+    c.loop-value-test.true c.value-item.is c.in_ok-push-in-Ok.ensures.items c.loop-value.invariant c.in-Ok.ensures
+
+pub returns : goal.returns
+returns c = each_end section_of c.args.values.now c.loop-value.value-index _ _ c.loop-value-test.false c.loop-value.invariant ∙ ap Some (map-id c.loop-value.sections.items)

@@ -1,0 +1,10 @@
+use Rattle.std.proofs.Common.{refl}
+use Rattle.pe_json.specs.LoadConfig.{number_fields}
+use Rattle.pe_json.proofs.load_config.members_up_to_enclave.Goals as goal
+
+pub returns : goal.returns
+unfolding number_fields
+returns c =
+    rw
+    (c.member.ensures, c.member-2.ensures, c.member-3.ensures, c.widened32.ensures, c.member-4.ensures, c.widened16.ensures, c.member-5.ensures, c.member-6.ensures, c.member-7.ensures, c.widened16-2.ensures, c.member-8.ensures, c.member-9.ensures, c.widened32-2.ensures, c.member-10.ensures, c.widened16-3.ensures, c.member-11.ensures, c.member-12.ensures)
+    refl
