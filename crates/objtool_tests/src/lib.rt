@@ -4,7 +4,11 @@
 #[cfg(test)]
 mod build_tests;
 #[cfg(test)]
+mod data_files;
+#[cfg(test)]
 mod declaration_tests;
+#[cfg(test)]
+mod definition_tests;
 #[cfg(test)]
 mod files;
 #[cfg(test)]
