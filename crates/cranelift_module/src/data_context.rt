@@ -105,6 +105,27 @@ impl DataDescription {
         }
     }
 
+    /// An equal one. Zeros take no memory.
+    pub fn copy(&self) -> Result<DataDescription, AllocError>
+        ensures { IfOk result (λ copy. copy ≡ self.now) }
+    {
+        let alloc = *self.function_decls.allocator();
+        let custom_section = match &self.custom_section {
+            Some(section) => Some(String::from_str(alloc, section.as_str())?),
+            None => None,
+        };
+        Ok(DataDescription {
+            init: self.init.copy()?,
+            function_decls: self.function_decls.to_vec(alloc)?,
+            data_decls: self.data_decls.to_vec(alloc)?,
+            function_relocs: self.function_relocs.to_vec(alloc)?,
+            data_relocs: self.data_relocs.to_vec(alloc)?,
+            custom_section,
+            align: self.align,
+            used: self.used,
+        })
+    }
+
     /// As it was made.
     pub fn clear(&mut self)
         ensures { self.new ≡ no_description }

@@ -16,7 +16,7 @@ pub mod riscv;
 pub mod x86;
 pub mod x86_64;
 
-pub use laws::constant_laws;
+pub use laws::{constant_laws, older_constant_laws};
 
 // x86, numbers 0 to 21.
 pub use x86::{

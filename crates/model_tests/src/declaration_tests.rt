@@ -3,7 +3,7 @@ use cranelift_module::{
     DataDescription, DataId, FuncId, FuncOrDataId, Init, Linkage, ModuleDeclarations,
     ModuleRelocTarget, check_definable, check_no_zero_byte,
 };
-use ir_core::{AbiParam, CallConv, Signature, ValueType};
+use ir_core::{AbiParam, CallConv, FuncRef, GlobalValue, Signature, ValueType};
 use std::test::Fail;
 
 #[test]
@@ -202,8 +202,18 @@ fn a_cleared_description_says_nothing(rt: HostRuntime) -> Result<(), Fail> {
     description.import_global_value(ModuleRelocTarget::user(1, 0))?;
     let second = description.import_global_value(ModuleRelocTarget::user(1, 1))?;
     assert_eq!(rt; second.as_u32(), 1);
-    assert_eq!(rt; description.function_decls().len(), 3);
-    assert_eq!(rt; description.data_decls().len(), 2);
+    description.define_zeroinit(256);
+    description.write_function_addr(0, FuncRef::from_u32(2))?;
+    description.write_function_addr(8, FuncRef::from_u32(0))?;
+    description.write_data_addr(16, GlobalValue::from_u32(1), -4)?;
+    let copy = description.copy()?;
+    for told in [&description, &copy] {
+        assert!(rt; matches!(told.init(), Init::Zeros { size: 256 }));
+        assert_eq!(rt; told.function_decls().len(), 3);
+        assert_eq!(rt; told.data_decls().len(), 2);
+        assert_eq!(rt; told.function_relocs().len(), 2);
+        assert_eq!(rt; told.data_relocs().len(), 1);
+    }
     description.clear();
     assert!(rt; matches!(description.init(), Init::Uninitialized));
     assert_eq!(rt; description.function_decls().len(), 0);
