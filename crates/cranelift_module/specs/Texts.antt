@@ -4,7 +4,6 @@ use Rattle.ir_core.specs.Names.{reloc_name, libcall_name, known_symbol_name}
 use Rattle.ir_core.specs.Signature.{signature_text}
 use Rattle.cranelift_module.specs.declared.identifiers.FuncOrDataId.{FuncOrDataId}
 use Rattle.cranelift_module.specs.declared.identifiers.FuncOrDataId.TheVariants.{Func, Data}
-use Rattle.cranelift_module.specs.declared.reloc.ModuleReloc.{ModuleReloc}
 use Rattle.cranelift_module.specs.declared.reloc.ModuleRelocTarget.{ModuleRelocTarget}
 use Rattle.cranelift_module.specs.declared.reloc.ModuleRelocTarget.TheVariants.{User, LibCall, KnownSymbol as Known, FunctionOffset}
 use Rattle.cranelift_module.specs.declared.error.SectionFault.{SectionFault}
@@ -23,10 +22,6 @@ user_target (Data id) = User 1 id
 abbrev pub IsUser : ModuleRelocTarget → Type 0
 IsUser (User namespace index) = Unit {0}
 IsUser _ = ⊥
-
--- the relocation goes to a namespace and an index
-abbrev pub GoesToUser : ModuleReloc → Type 0
-GoesToUser r = IsUser r.name
 
 -- the target is of namespace 0
 abbrev pub IsFunctionTarget : ModuleRelocTarget → Type 0

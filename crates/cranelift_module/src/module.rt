@@ -1,7 +1,7 @@
 //! What every back end offers: declarations and definitions over one link state.
 
 ghost use Rattle.std.specs.Prelude.{◌≡◌, ◌<◌, ◌++◌, ◌∷◌, ℕ, [], length, slice_get, None, Some, IfOk, IfErr, OnOk, OnErr};
-ghost use Rattle.std.specs.List.{position_from, All};
+ghost use Rattle.std.specs.List.{position_from};
 ghost use Rattle.ir_core.specs.Target.{default_call_conv, pointer_bytes};
 ghost use Rattle.cranelift_module.specs.LinkState.{LinkState, is_function_named, is_data_named};
 ghost use Rattle.cranelift_module.specs.Declarations.{declared_under};
@@ -9,8 +9,6 @@ ghost use Rattle.cranelift_module.specs.IsCall.{IsCall};
 ghost use Rattle.cranelift_module.specs.Call as calls;
 ghost use Rattle.cranelift_module.specs.Imports.{function_imported, data_imported};
 ghost use Rattle.cranelift_module.specs.Refusal.{Tells};
-ghost use Rattle.cranelift_module.specs.Texts.{GoesToUser};
-ghost use Rattle.cranelift_module.specs.Definitions.{relocs_of};
 ghost use Rattle.cranelift_module.specs.declared.reloc.ModuleRelocTarget.TheVariants.{User};
 
 use crate::imports::{import_called, import_value};
@@ -82,8 +80,8 @@ pub trait Module {
         ensures keeps { Keeps self.old self.new }
         ensures id { IfOk result (λ id. id ≡ length (state self.old).objects) };
 
-    /// Defines a declared function by its bytes and its relocations. The alignment is in bytes. Relocations go to
-    /// a namespace and an index; the other targets come with a later stage.
+    /// Defines a declared function by its bytes and its relocations. The alignment is in bytes. What the relocations go
+    /// to is looked up when the module is finished.
     fn define_function_bytes(
         &mut self,
         func_id: FuncId,
@@ -91,14 +89,12 @@ pub trait Module {
         bytes: &[u8],
         relocs: &[ModuleReloc],
     ) -> ModuleResult<()>
-        requires targets { All GoesToUser relocs.now }
         ensures call { IsCall result (state self.old) (state self.new) (calls.define_function func_id alignment bytes.now relocs.now) }
         ensures keeps { Keeps self.old self.new };
 
     /// Defines a declared data object by its description. It is writable where a declaration before this call says
-    /// so. What the description imports has a namespace and an index; the other targets come with a later stage.
+    /// so. What the description imports is looked up when the module is finished.
     fn define_data(&mut self, data_id: DataId, desc: &DataDescription) -> ModuleResult<()>
-        requires targets { All GoesToUser (relocs_of desc.now) }
         ensures call { IsCall result (state self.old) (state self.new) (calls.define_data data_id desc.now) }
         ensures keeps { Keeps self.old self.new };
 

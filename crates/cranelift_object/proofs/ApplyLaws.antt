@@ -2,9 +2,8 @@
 use Rattle.std.proofs.Common.{◌≡◌, ℕ, ◌+◌, ◌<◌, ◌≤◌, ◌++◌, ◌∷◌, List, [], Bool, true, false, cond, length, map, drop, take, get_or, Option, Some, None, refl, ap, sym, ◌∙◌, subst, arith, length-append, append_assoc}
 use Rattle.std.specs.Prelude.{count_by, IfSome, option_map, Result, Ok, Err}
 use Rattle.std.specs.Option.{option_or}
-use Rattle.std.specs.List.{All, position_from}
+use Rattle.std.specs.List.{position_from}
 use Rattle.cranelift_module.proofs.Places.{position-below}
-use Rattle.std.proofs.lemmas.List.Elements.{All-head, All-tail}
 use Rattle.std.proofs.lemmas.List.{append-nil, drop_all}
 use Rattle.std.proofs.Math.Seq.{take-append_seam}
 use Rattle.std.proofs.lemmas.List.Sums.{sum_by-cons}
@@ -15,7 +14,7 @@ use Rattle.cranelift_module.specs.LinkState.{LinkState, step, steps, with_first}
 use Rattle.cranelift_module.specs.Refusal.{Refusal, Tells, refusal, refusal_told}
 use Rattle.cranelift_module.specs.IsCall.{IsCall}
 use Rattle.cranelift_object.specs.declared.command.Command.{Command}
-use Rattle.cranelift_object.specs.Commands.{command_view, makes_function, makes_data, IsPlainCall, first_refusal, TellsAt}
+use Rattle.cranelift_object.specs.Commands.{command_view, makes_function, makes_data, first_refusal, TellsAt}
 use Rattle.cranelift_object.proofs.FirstCause.{drop_step}
 
 -- the calls from a place on
@@ -79,17 +78,13 @@ pub record IsRunning (s now : LinkState) (calls rest : List Call) (j : ℕ) : Ty
   pub first : first_refusal s 0 calls ≡ first_refusal now j rest
   pub room : length now.functions + count_by makes_function rest < 4294967295
   pub room_for_data : length now.objects + count_by makes_data rest < 4294967295
-  pub plain : All IsPlainCall rest
 
 steps-append : (s : LinkState) (xs ys : List Call) → steps s (xs ++ ys) ≡ steps (steps s xs) ys
 steps-append s [] ys = refl
 steps-append s (x ∷ xs) ys = steps-append (step s x) xs ys
 
-pub run_begins : (s : LinkState) (calls : List Call) → length s.functions + count_by makes_function calls < 4294967295 → length s.objects + count_by makes_data calls < 4294967295 → All IsPlainCall calls → IsRunning s s calls calls 0
-run_begins s calls room room_for_data plain = record { done = []; count = refl; split = refl; made = refl; first = refl; room = room; room_for_data = room_for_data; plain = plain }
-
-pub run_plain : (s now : LinkState) (calls rest : List Call) (c : Call) (j : ℕ) → IsRunning s now calls (c ∷ rest) j → IsPlainCall c
-run_plain s now calls rest c j h = All-head IsPlainCall c rest h.plain
+pub run_begins : (s : LinkState) (calls : List Call) → length s.functions + count_by makes_function calls < 4294967295 → length s.objects + count_by makes_data calls < 4294967295 → IsRunning s s calls calls 0
+run_begins s calls room room_for_data = record { done = []; count = refl; split = refl; made = refl; first = refl; room = room; room_for_data = room_for_data }
 
 pub run_room : (s now : LinkState) (calls rest : List Call) (c : Call) (j : ℕ) → IsRunning s now calls (c ∷ rest) j → makes_function c ≡ true → length now.functions < 4294967295
 run_room s now calls rest c j h makes =
@@ -115,7 +110,6 @@ run_next s now later calls rest c j h free left =
       first = h.first ∙ (rw (free, left) refl);
       room = rw left (omega (arith, h.room, counted, step_length now c));
       room_for_data = rw left (omega (arith, h.room_for_data, counted_data, step_objects now c));
-      plain = All-tail IsPlainCall c rest h.plain;
     }
 
 told_at : (told : Option Refusal) (a : Option Refusal) (b : Option (ℕ × Refusal)) (j : ℕ) → IfSome told (λ r. a ≡ Some r) → IfSome told (λ r. option_or (option_map (λ (x : Refusal). (j, x)) a) b ≡ Some (j, r))

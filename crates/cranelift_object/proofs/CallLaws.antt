@@ -15,7 +15,6 @@ use Rattle.cranelift_module.specs.Call.{Call, declare_function, declare_data, de
 use Rattle.cranelift_module.specs.Rows.{FunctionRow, DataRow}
 use Rattle.cranelift_module.specs.Definitions.{Definition, definition_made, relocs_of, size_of, is_writable, is_thread_local}
 use Rattle.cranelift_module.specs.Init.{are_in_range, is_function_within, is_value_within}
-use Rattle.cranelift_module.specs.Texts.{GoesToUser}
 use Rattle.ir_core.specs.Target.{Target}
 use Rattle.cranelift_module.specs.LinkState.{LinkState, step}
 use Rattle.cranelift_module.specs.Refusal.{Refusal, Tells, refusal, refusal_told, backend, undeclared, zero_byte, function_clash, data_clash, undefinable, undefinable_object, undefinable_data, description_cause, loose_function, loose_value, bad_reloc_from, bytes_in, is_bad_align, is_defined, first_cause, refuse_if, duplicate_definition, function_name, data_name}
@@ -114,11 +113,11 @@ definable_aligned defined id align functions h = good_row defined id align (slic
 
 -- what holds of an accepted definition of a function
 pub function_body : (target : Target) (functions objects id align : ℕ) (xs : List ℕ) (relocs : List ModuleReloc) (rows : List DataRow) (d : Definition) → definition_made rows (define_function id align xs relocs) ≡ Some d → id < functions → is_bad_align align ≡ false → bad_reloc_from target (Some (length xs)) [] relocs ≡ None
-    → All GoesToUser relocs → size_of d.contents < 2 ^ 64 → (d.identifier ≡ Func id) × IsBody target functions objects d
-function_body target functions objects id align xs relocs rows d made below good judged targets sized =
+    → size_of d.contents < 2 ^ 64 → (d.identifier ≡ Func id) × IsBody target functions objects d
+function_body target functions objects id align xs relocs rows d made below good judged sized =
     let is : record { identifier = Func id; contents = bytes xs; align = align; relocs = relocs; section = None; used = false; writable = false } ≡ d = cc in (
       sym (ap (λ (x : Definition). x.identifier) is),
-      subst (λ (x : Definition). size_of x.contents < 2 ^ 64 → IsBody target functions objects x) is (λ small. record { declared = below; sized = small; aligned = good; judged = judged; targets = targets; text = refl; plain = (tt, refl, refl) }) sized,
+      subst (λ (x : Definition). size_of x.contents < 2 ^ 64 → IsBody target functions objects x) is (λ small. record { declared = below; sized = small; aligned = good; judged = judged; text = refl; plain = (tt, refl, refl) }) sized,
     )
 
 -- -- definitions of data objects
@@ -194,13 +193,13 @@ judged_in_hand target d size relocs e f = rw (e, f) refl
 
 -- what holds of an accepted definition of a data object
 pub data_body : (target : Target) (functions count id : ℕ) (desc : Description) (defined : Bool) (objects rows : List DataRow) (d : Definition) → definition_made rows (define_data id desc) ≡ Some d → undefinable_data defined id desc (slice_get objects id) ≡ None → id < count
-    → bad_reloc_from target (bytes_in (unwrap_or desc.contents (bytes []))) [] (relocs_of desc) ≡ None → All GoesToUser (relocs_of desc) → size_of d.contents < 2 ^ 64 → (d.identifier ≡ Data id) × IsBody target functions count d
-data_body target functions count id desc defined objects rows d made free below judged targets sized =
+    → bad_reloc_from target (bytes_in (unwrap_or desc.contents (bytes []))) [] (relocs_of desc) ≡ None → size_of d.contents < 2 ^ 64 → (d.identifier ≡ Data id) × IsBody target functions count d
+data_body target functions count id desc defined objects rows d made free below judged sized =
     let none = described (is_thread_local (slice_get objects id)) desc (description_none defined id desc objects free) in
     let good = not_refused (is_bad_align (unwrap_or desc.align 1)) (backend (BadAlign (unwrap_or desc.align 1))) none.second in
     let is : record { identifier = Data id; contents = unwrap_or desc.contents (bytes []); align = unwrap_or desc.align 1; relocs = relocs_of desc; section = desc.section; used = desc.used; writable = is_writable (slice_get rows id) } ≡ d = cc in (
       sym (ap (λ (x : Definition). x.identifier) is),
-      subst (λ (x : Definition). size_of x.contents < 2 ^ 64 → IsBody target functions count x) is (λ small. record { declared = below; sized = small; aligned = good; judged = judged; targets = targets; text = none.sixth; plain = tt }) sized,
+      subst (λ (x : Definition). size_of x.contents < 2 ^ 64 → IsBody target functions count x) is (λ small. record { declared = below; sized = small; aligned = good; judged = judged; text = none.sixth; plain = tt }) sized,
     )
 
 -- -- declarations

@@ -20,14 +20,14 @@ use Rattle.cranelift_module.specs.Refusal.{is_same_identifier}
 use Rattle.cranelift_object.specs.Settings.{Settings}
 use Rattle.cranelift_object.specs.Opened.{OpenModule}
 use Rattle.cranelift_object.specs.Kept.{IsBegun, IsDeclared, IsBody, IsFirst, IsName, IsModule, Marks}
-use Rattle.cranelift_object.specs.Part.{is_supported}
+use Rattle.cranelift_object.specs.Part.{is_supported, is_mach_o}
 use Rattle.cranelift_object.proofs.CreationLaws.{numbered-function, numbered-data}
 
 -- a pair that is built and isn't Mach-O is ELF
-pub supported_elf : (architecture : Architecture) (format : BinaryFormat) → is_supported architecture format ≡ true → format ≢ Macho → format ≡ Elf
+pub supported_elf : (architecture : Architecture) (format : BinaryFormat) → is_supported architecture format ≡ true → is_mach_o architecture format ≡ false → format ≡ Elf
 supported_elf architecture Elf h n = refl
 supported_elf architecture Coff h n = absurd (cc)
-supported_elf architecture Macho h n = absurd (n refl)
+supported_elf architecture Macho h n = absurd (cc)
 supported_elf architecture Wasm h n = absurd (cc)
 supported_elf architecture Unknown h n = absurd (cc)
 
@@ -83,7 +83,6 @@ IsBody-more target functions objects more_functions more_objects d f e b =
       sized = b.sized;
       aligned = b.aligned;
       judged = b.judged;
-      targets = b.targets;
       text = b.text;
       plain = b.plain;
     }

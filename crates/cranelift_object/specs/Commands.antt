@@ -1,11 +1,8 @@
 -- The calls that commands stand for.
 use Rattle.std.specs.Prelude.{◌≡◌, ℕ, ◌+◌, Bool, true, false, List, [], ◌∷◌, Option, Some, None, option_map, IfSome}
-use Rattle.cranelift_module.specs.Call.{Call, declare_function, declare_anonymous_function, declare_data, declare_anonymous_data, define_function, define_data}
+use Rattle.cranelift_module.specs.Call.{Call, declare_function, declare_anonymous_function, declare_data, declare_anonymous_data}
 use Rattle.std.specs.Option.{option_or}
 use Rattle.cranelift_module.specs.declared.error.ModuleError.{ModuleError}
-use Rattle.std.specs.List.{All}
-use Rattle.cranelift_module.specs.Texts.{GoesToUser}
-use Rattle.cranelift_module.specs.Definitions.{relocs_of}
 use Rattle.cranelift_module.specs.LinkState.{LinkState, step}
 use Rattle.cranelift_module.specs.Refusal.{Refusal, refusal, refusal_told}
 pub use Rattle.cranelift_object.specs.Command.{command_view}
@@ -21,15 +18,6 @@ abbrev pub makes_data : Call → Bool
 makes_data (declare_data name linkage writable tls) = true
 makes_data (declare_anonymous_data writable tls) = true
 makes_data _ = false
-
--- a call that is made so far: relocations go to a namespace and an index
-abbrev pub IsPlainCall : Call → Type 0
-IsPlainCall (declare_function name linkage signature) = Unit {0}
-IsPlainCall (declare_anonymous_function signature) = Unit {0}
-IsPlainCall (declare_data name linkage writable tls) = Unit {0}
-IsPlainCall (declare_anonymous_data writable tls) = Unit {0}
-IsPlainCall (define_function id align bytes relocs) = All GoesToUser relocs
-IsPlainCall (define_data id description) = All GoesToUser (relocs_of description)
 
 -- the first call that is refused behind those before it, with its number from j on
 unfoldable pub first_refusal : LinkState → ℕ → List Call → Option (ℕ × Refusal)

@@ -9,7 +9,6 @@ use Rattle.cranelift_module.specs.Rows.{FunctionRow, DataRow}
 use Rattle.ir_core.specs.Target.{Target}
 use Rattle.cranelift_module.specs.Call.{Contents, bytes, zeros}
 use Rattle.cranelift_module.specs.Definitions.{Definition, size_of}
-use Rattle.cranelift_module.specs.Texts.{GoesToUser}
 use Rattle.cranelift_module.specs.Refusal.{is_same_identifier, zero_byte, bad_reloc, is_bad_align}
 use Rattle.cranelift_object.specs.Opened.{BuilderData, OpenModule}
 
@@ -39,7 +38,6 @@ pub record IsBody (target : Target) (functions objects : ℕ) (d : Definition) :
   pub sized : size_of d.contents < 2 ^ 64
   pub aligned : is_bad_align d.align ≡ false
   pub judged : bad_reloc target d.contents d.relocs ≡ None
-  pub targets : All GoesToUser d.relocs
   pub text : zero_byte (unwrap_or d.section []) ≡ None
   pub plain : IsPlainBody d.identifier d.contents d.section d.used
 

@@ -1,11 +1,10 @@
 //! What a module is begun with: its target, the file's name and the options.
 
-ghost use Rattle.std.specs.Prelude.{◌≡◌, ◌≢◌, None, map, string_bytes, IfOk, IfErr, OnOk};
-ghost use Rattle.ir_core.specs.declared.target.BinaryFormat.TheVariants.{Macho};
+ghost use Rattle.std.specs.Prelude.{◌≡◌, None, false, map, string_bytes, IfOk, IfErr, OnOk};
 ghost use Rattle.cranelift_module.specs.Refusal.{Tells, first_cause, zero_byte};
 ghost use Rattle.cranelift_object.specs.Settings.{plain_settings};
 ghost use Rattle.cranelift_object.specs.Kept.{IsBegun};
-ghost use Rattle.cranelift_object.specs.Part.{start_cause, is_supported};
+ghost use Rattle.cranelift_object.specs.Part.{start_cause, is_supported, is_mach_o};
 
 use cranelift_module::{BackendCause, LibcallNames, ModuleError, ModuleResult, check_no_zero_byte};
 use ir_core::{Architecture, BinaryFormat, TargetIsa};
@@ -39,7 +38,7 @@ impl Model for ObjectBuilder {
 
 impl ObjectBuilder {
     /// Settings with both options off. A target that isn't built, a zero byte in the file's name and one in a text of
-    /// a library call are refused. Mach-O comes with a later stage.
+    /// a library call are refused. Mach-O for x86_64 and aarch64 comes with a later stage.
     #[tactic(auto, using(crate::proofs::KeptLaws::supported_elf), unfolding(crate::specs::Part::start_cause))]
     pub fn new(
         alloc: Global,
@@ -47,7 +46,7 @@ impl ObjectBuilder {
         name: &[u8],
         libcall_names: LibcallNames,
     ) -> ModuleResult<Self>
-        requires { isa.triple.binary_format ≢ Macho }
+        requires { is_mach_o isa.triple.architecture isa.triple.binary_format ≡ false }
         ensures ok { IfOk result (λ b. b ≡ record { settings = plain_settings name.now libcall_names; target = isa }) }
         ensures none { OnOk result (start_cause (plain_settings name.now libcall_names) isa ≡ None) }
         ensures cause { IfErr result (λ e. Tells e (start_cause (plain_settings name.now libcall_names) isa)) }

@@ -1,11 +1,10 @@
 //! The calls of a module as values.
 
 ghost use Rattle.std.specs.Prelude.{◌≡◌, ◌<◌, ◌+◌, ℕ, [], IsTrue, Some, None, length, map, count_by, take, IfOk, IfErr, OnOk, OnErr, slice_get};
-ghost use Rattle.std.specs.List.{All};
 ghost use Rattle.cranelift_module.specs.LinkState.{LinkState, steps, state_of};
 ghost use Rattle.cranelift_module.specs.IsCall.{IsCall};
 ghost use Rattle.cranelift_module.specs.Refusal.{Tells, refusal};
-ghost use Rattle.cranelift_object.specs.Commands.{command_view, makes_function, makes_data, IsPlainCall, first_refusal, TellsAt};
+ghost use Rattle.cranelift_object.specs.Commands.{command_view, makes_function, makes_data, first_refusal, TellsAt};
 ghost use Rattle.cranelift_object.specs.Settings.{plain_settings};
 ghost use Rattle.ir_core.specs.Target.{Target};
 ghost use Rattle.cranelift_object.specs.Part.{first_refused, TellsCall};
@@ -187,7 +186,6 @@ impl CommandPart {
 pub fn apply<M: Module>(backend: &mut M, commands: &[Command]) -> Result<(), (usize, ModuleError)>
     requires room { length (M.state backend.old).functions + count_by makes_function (map command_view commands.now) < 4294967295 }
     requires room_for_data { length (M.state backend.old).objects + count_by makes_data (map command_view commands.now) < 4294967295 }
-    requires plain { All IsPlainCall (map command_view commands.now) }
     ensures ok { OnOk result (M.state backend.new ≡ steps (M.state backend.old) (map command_view commands.now)) }
     ensures none { OnOk result (first_refusal (M.state backend.old) 0 (map command_view commands.now) ≡ None) }
     ensures refused { IfErr result (λ e. TellsAt e.0 e.1 (first_refusal (M.state backend.old) 0 (map command_view commands.now))) }
@@ -209,7 +207,6 @@ pub fn apply<M: Module>(backend: &mut M, commands: &[Command]) -> Result<(), (us
 fn make_call<M: Module>(backend: &mut M, command: &Command) -> ModuleResult<()>
     requires room { IsTrue (makes_function (command_view command.now)) → length (M.state backend.old).functions < 4294967295 }
     requires room_for_data { IsTrue (makes_data (command_view command.now)) → length (M.state backend.old).objects < 4294967295 }
-    requires plain { IsPlainCall (command_view command.now) }
     ensures call { IsCall result (M.state backend.old) (M.state backend.new) (command_view command.now) }
     ensures keeps { M.Keeps backend.old backend.new }
 {

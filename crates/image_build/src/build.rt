@@ -1,10 +1,9 @@
 //! From parts to the bytes of a file.
 
-ghost use Rattle.std.specs.Prelude.{◌≡◌, ◌≢◌, ◌∷◌, [], None, Some, map, IfOk, IfErr, OnOk, IsSomeAnd};
-ghost use Rattle.ir_core.specs.declared.target.BinaryFormat.TheVariants.{Macho};
+ghost use Rattle.std.specs.Prelude.{◌≡◌, ◌∷◌, [], false, None, Some, map, IfOk, IfErr, OnOk, IsSomeAnd};
 ghost use Rattle.cranelift_module.specs.LinkState.{state_of};
 ghost use Rattle.cranelift_module.specs.Refusal.{Tells, refusal_told};
-ghost use Rattle.cranelift_object.specs.Part.{start_cause};
+ghost use Rattle.cranelift_object.specs.Part.{start_cause, is_mach_o};
 ghost use Rattle.image_build.specs.Built.{Built, build_cause, TellsBuild, TellsCause, TellsOver, commands};
 ghost use Rattle.image_build.specs.Parts.{part_view, IsBuildable, IsPlainPart};
 
@@ -49,7 +48,7 @@ fn at(place: Place, cause: BuildCause) -> BuildError
 /// A module with the part's target and settings, before its commands.
 #[tactic(auto, using(crate::proofs::PartCause::start_plain))]
 fn open_module(alloc: Global, part: &CommandPart) -> ModuleResult<ObjectModule>
-    requires { (part.now).target.triple.binary_format ≢ Macho }
+    requires { is_mach_o (part.now).target.triple.architecture (part.now).target.triple.binary_format ≡ false }
     ensures ok { IfOk result (λ m. m ≡ record { settings = (part.now).settings; state = state_of (part.now).target [] }) }
     ensures none { OnOk result (start_cause (part.now).settings (part.now).target ≡ None) }
     ensures cause { IfErr result (λ e. Tells e (start_cause (part.now).settings (part.now).target)) }

@@ -1,9 +1,6 @@
-use Rattle.cranelift_object.proofs.ApplyLaws.{run_at, run_ended, run_plain, run_next, run_refused, run_free, run_whole}
+use Rattle.cranelift_object.proofs.ApplyLaws.{run_at, run_ended, run_next, run_refused, run_free, run_whole}
 use Rattle.cranelift_object.proofs.RunLaws.{whole_run, none_refused, refused_first}
 use Rattle.cranelift_object.proofs.command.apply.Goals as goal
-
-pub make_call-requires-clause-plain : goal.make_call-requires-clause-plain
-make_call-requires-clause-plain g c = run_plain _ _ _ _ _ _ (run_at _ _ _ _ _ _ c.loop-number.invariant.run c.loop-number-test.true c.index-commands-number.is)
 
 pub returns-in-Err-clause-refused : goal.returns-in-Err-clause-refused
 returns-in-Err-clause-refused g c =

@@ -44,7 +44,7 @@ invariant_of-self-2 c =
     let judged = sym hand ∙ subst (λ (t : Target). bad_reloc_from t c.bytes_in.result [] c.deref.result.now ≡ None) c.isa.ensures c.in_default-check_relocs.ensures.accepted in
     let body =
     data_body c.self.inside.builder.target (length c.self.inside.declarations.functions) (length c.self.inside.declarations.objects) c.args.data_id c.args.desc.now c.is_object_defined-defined.result c.self.inside.declarations.objects c.args.self.now.state.objects c.in_ok-definition.definition
-    (c.in_ok-definition.ensures.value c.args.self.now.state.objects (sym c.is_writable-writable.ensures)) accepted below judged c.requires.targets c.in_ok-definition.ensures.sized
+    (c.in_ok-definition.ensures.value c.args.self.now.state.objects (sym c.is_writable-writable.ensures)) accepted below judged c.in_ok-definition.ensures.sized
     in
     kept_body_data _ _ c.in_ok-definition.definition c.push.new.self.items c.args.data_id c.as_u32.result c.self.invariant body.0 body.1 below marks c.in_ok-push.ensures.items c.as_u32.ensures
 

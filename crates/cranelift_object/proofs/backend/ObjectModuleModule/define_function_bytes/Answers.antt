@@ -38,7 +38,7 @@ invariant_of-self-2 c =
     let judged = subst (λ (t : Target). bad_reloc_from t (Some (length c.args.bytes.now)) [] c.args.relocs.now ≡ None) c.isa.ensures c.in_default-check_relocs.ensures.accepted in
     let body =
     function_body c.self.inside.builder.target (length c.self.inside.declarations.functions) (length c.self.inside.declarations.objects) c.args.func_id c.args.alignment c.args.bytes.now c.args.relocs.now [] c.in_ok-definition.definition (c.in_ok-definition.ensures.value [])
-    below good judged c.requires.targets c.in_ok-definition.ensures.sized
+    below good judged c.in_ok-definition.ensures.sized
     in
     kept_body _ _ c.in_ok-definition.definition c.push.new.self.items c.args.func_id c.as_u32.result c.self.invariant body.0 body.1 below marks c.in_ok-push.ensures.items c.as_u32.ensures
 
