@@ -1,11 +1,11 @@
 -- The targets of a module in which no relocation goes to what can't be had.
-use Rattle.std.proofs.Common.{◌≡◌, ℕ, zero, suc, ◌+◌, ◌<◌, ◌≤◌, ◌==◌, ◌&&◌, ◌||◌, ◌++◌, ◌∷◌, List, [], Bool, true, false, not, cond, length, map, filter, take, Option, Some, None, refl, ap, sym, ◌∙◌, subst, arith}
+use Rattle.std.proofs.Common.{◌≡◌, ℕ, ◌<◌, ◌==◌, ◌&&◌, ◌||◌, ◌++◌, ◌∷◌, List, [], Bool, true, false, not, cond, length, map, filter, Option, Some, None, refl, ap, sym, ◌∙◌, subst}
 use Rattle.std.specs.Prelude.{slice_get, option_map, is_some, flat_map}
 use Rattle.std.specs.Option.{option_or}
 use Rattle.std.specs.List.{All, list_any, position_from}
 use Rattle.std.proofs.lemmas.Option.{slice_get_within}
 use Rattle.std.proofs.lemmas.List.{append-nil}
-use Rattle.std.proofs.lemmas.List.Elements.{All-nil, All-cons, All-head, All-tail, All-append, All-weaker, All-map, filter-append}
+use Rattle.std.proofs.lemmas.List.Elements.{All-nil, All-cons, All-head, All-tail, All-append, All-weaker}
 use Rattle.ir_core.specs.Moments.{once_each}
 use Rattle.ir_core.proofs.MomentLaws.{by_end, once_each-end}
 use Rattle.cranelift_module.proofs.Places.{position-below}
@@ -14,10 +14,9 @@ use Rattle.cranelift_module.specs.declared.identifiers.FuncOrDataId.TheVariants.
 use Rattle.cranelift_module.specs.declared.reloc.ModuleReloc.{ModuleReloc}
 use Rattle.cranelift_module.specs.declared.reloc.ModuleRelocTarget.{ModuleRelocTarget}
 use Rattle.cranelift_module.specs.declared.reloc.ModuleRelocTarget.TheVariants.{User, LibCall, KnownSymbol, FunctionOffset}
-use Rattle.cranelift_module.specs.Rows.{FunctionRow, DataRow}
+use Rattle.cranelift_module.specs.Rows.{FunctionRow}
 use Rattle.cranelift_module.specs.Definitions.{Definition}
 use Rattle.cranelift_module.specs.LinkState.{LinkState, is_function_named, is_data_named}
-use Rattle.cranelift_module.specs.Declarations.{declared_under}
 use Rattle.cranelift_module.specs.Refusal.{Refusal, refuse_if, undeclared, missing_definition, function_name, is_defined}
 use Rattle.cranelift_module.specs.Texts.{user_text}
 use Rattle.cranelift_object.specs.Settings.{Settings, library_text}
