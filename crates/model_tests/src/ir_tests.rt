@@ -133,10 +133,7 @@ fn a_kind_has_the_number_of_each_processor_that_has_it(rt: HostRuntime) {
         elf_number(Architecture::Riscv64, Reloc::RiscvCallPlt),
         Some(19)
     );
-    assert_eq!(rt;
-        elf_number(Architecture::X86_64, Reloc::RiscvCallPlt),
-        None
-    );
+    assert_eq!(rt; elf_number(Architecture::X86_64, Reloc::RiscvCallPlt), None);
     assert_eq!(rt; field_width(Reloc::RiscvCallPlt), 8);
     assert_eq!(rt; field_width(Reloc::Arm64Call), 4);
 }

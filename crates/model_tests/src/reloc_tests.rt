@@ -56,10 +56,7 @@ fn a_user_name_in_code_is_the_target_of_its_namespace_and_index(
         RelocTarget::ExternalName(ExternalName::User(second_place)),
     );
     assert_eq!(rt; first, call_to(ModuleRelocTarget::user(0, 7)));
-    assert_eq!(rt;
-        second,
-        call_to(ModuleRelocTarget::user(1, 4_294_967_295))
-    );
+    assert_eq!(rt; second, call_to(ModuleRelocTarget::user(1, 4_294_967_295)));
     Ok(())
 }
 
@@ -69,17 +66,15 @@ fn a_label_in_code_is_a_place_in_the_function_and_other_names_stay_as_they_are(r
     let start = call_from_five(&function, RelocTarget::Label(MachLabel::from_offset(0)));
     let inside = call_from_five(&function, RelocTarget::Label(MachLabel::from_offset(100)));
     let five = FuncId::from_u32(5);
-    assert_eq!(rt;
-        start,
-        call_to(ModuleRelocTarget::FunctionOffset(five, 0))
-    );
+    assert_eq!(rt; start, call_to(ModuleRelocTarget::FunctionOffset(five, 0)));
     assert_eq!(rt;
         inside,
         call_to(ModuleRelocTarget::FunctionOffset(five, 100))
     );
     let library = RelocTarget::ExternalName(ExternalName::LibCall(LibCall::Memcpy));
-    let known =
-        RelocTarget::ExternalName(ExternalName::KnownSymbol(KnownSymbol::ElfGlobalOffsetTable));
+    let known = RelocTarget::ExternalName(ExternalName::KnownSymbol(
+        KnownSymbol::ElfGlobalOffsetTable,
+    ));
     assert_eq!(rt;
         call_from_five(&function, library),
         call_to(ModuleRelocTarget::LibCall(LibCall::Memcpy))
@@ -124,11 +119,7 @@ fn function_addresses_come_before_data_addresses_each_once(rt: HostRuntime) -> R
     let expected = [
         (4_294_967_295, ModuleRelocTarget::user(0, 2), 0),
         (0, ModuleRelocTarget::user(0, 2), 0),
-        (
-            0,
-            ModuleRelocTarget::user(1, 9),
-            -9_223_372_036_854_775_808,
-        ),
+        (0, ModuleRelocTarget::user(1, 9), -9_223_372_036_854_775_808),
     ];
     let mut relocs = description.all_relocs(Reloc::Abs4);
     for (offset, name, addend) in &expected {
