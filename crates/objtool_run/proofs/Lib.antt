@@ -4,4 +4,4 @@ pub mod NumberWords
 pub mod Judging
 pub mod Endings
 pub mod PartList
-pub mod Buildable
+pub mod Appending
