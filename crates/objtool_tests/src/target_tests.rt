@@ -206,6 +206,14 @@ fn builds(rt: &impl Abort, alloc: Global, part: &str, file: &[&str]) -> Result<(
     Ok(())
 }
 
+/// Shows that a part is built.
+fn takes(rt: &impl Abort, alloc: Global, part: &str) -> Result<(), Fail> {
+    let build = words(alloc, &["build"])?;
+    let mut host = MemHost::new(alloc, part.as_bytes(), NONE, 8000)?;
+    assert_eq!(rt; run(alloc, &build, &mut host), 0, "{part}");
+    Ok(())
+}
+
 /// Shows that a part is answered with this status and this fault text alone.
 fn refuses(rt: &impl Abort, alloc: Global, part: &str, status: u8, want: &str) -> Result<(), Fail> {
     let build = words(alloc, &["build"])?;
@@ -279,36 +287,36 @@ fn every_kind_of_each_processor_has_its_number(rt: HostRuntime) -> Result<(), Fa
 }
 
 /// The kinds of relocations, each with the processors that have it.
-const KINDS: [(&str, [bool; 3]); 29] = [
-    ("Abs4", [true, true, true]),
-    ("Abs8", [true, true, true]),
-    ("X86PCRel4", [true, false, false]),
-    ("X86CallPCRel4", [true, false, false]),
-    ("X86CallPLTRel4", [true, false, false]),
-    ("X86GOTPCRel4", [true, false, false]),
-    ("X86SecRel", [false, false, false]),
-    ("Arm64Call", [false, true, false]),
-    ("S390xPCRel32Dbl", [false, false, false]),
-    ("S390xPLTRel32Dbl", [false, false, false]),
-    ("ElfX86_64TlsGd", [true, false, false]),
-    ("MachOX86_64Tlv", [false, false, false]),
-    ("MachOAarch64TlsAdrPage21", [false, false, false]),
-    ("MachOAarch64TlsAdrPageOff12", [false, false, false]),
-    ("Aarch64TlsDescAdrPage21", [false, true, false]),
-    ("Aarch64TlsDescLd64Lo12", [false, true, false]),
-    ("Aarch64TlsDescAddLo12", [false, true, false]),
-    ("Aarch64TlsDescCall", [false, true, false]),
-    ("Aarch64AdrGotPage21", [false, true, false]),
-    ("Aarch64Ld64GotLo12Nc", [false, true, false]),
-    ("Aarch64AdrPrelPgHi21", [false, true, false]),
-    ("Aarch64AddAbsLo12Nc", [false, true, false]),
-    ("RiscvCallPlt", [false, false, true]),
-    ("RiscvTlsGdHi20", [false, false, true]),
-    ("RiscvPCRelHi20", [false, false, true]),
-    ("RiscvPCRelLo12I", [false, false, true]),
-    ("RiscvGotHi20", [false, false, true]),
-    ("S390xTlsGd64", [false, false, false]),
-    ("S390xTlsGdCall", [false, false, false]),
+const KINDS: [(&str, (bool, bool, bool)); 29] = [
+    ("Abs4", (true, true, true)),
+    ("Abs8", (true, true, true)),
+    ("X86PCRel4", (true, false, false)),
+    ("X86CallPCRel4", (true, false, false)),
+    ("X86CallPLTRel4", (true, false, false)),
+    ("X86GOTPCRel4", (true, false, false)),
+    ("X86SecRel", (false, false, false)),
+    ("Arm64Call", (false, true, false)),
+    ("S390xPCRel32Dbl", (false, false, false)),
+    ("S390xPLTRel32Dbl", (false, false, false)),
+    ("ElfX86_64TlsGd", (true, false, false)),
+    ("MachOX86_64Tlv", (false, false, false)),
+    ("MachOAarch64TlsAdrPage21", (false, false, false)),
+    ("MachOAarch64TlsAdrPageOff12", (false, false, false)),
+    ("Aarch64TlsDescAdrPage21", (false, true, false)),
+    ("Aarch64TlsDescLd64Lo12", (false, true, false)),
+    ("Aarch64TlsDescAddLo12", (false, true, false)),
+    ("Aarch64TlsDescCall", (false, true, false)),
+    ("Aarch64AdrGotPage21", (false, true, false)),
+    ("Aarch64Ld64GotLo12Nc", (false, true, false)),
+    ("Aarch64AdrPrelPgHi21", (false, true, false)),
+    ("Aarch64AddAbsLo12Nc", (false, true, false)),
+    ("RiscvCallPlt", (false, false, true)),
+    ("RiscvTlsGdHi20", (false, false, true)),
+    ("RiscvPCRelHi20", (false, false, true)),
+    ("RiscvPCRelLo12I", (false, false, true)),
+    ("RiscvGotHi20", (false, false, true)),
+    ("S390xTlsGd64", (false, false, false)),
+    ("S390xTlsGdCall", (false, false, false)),
 ];
 
 /// Commands that define a function of so many bytes with a relocation of this kind at the start.
@@ -321,15 +329,18 @@ fn one_relocation(alloc: Global, bytes: &str, kind: &str) -> Result<String, Allo
 #[test]
 fn a_processor_refuses_the_kinds_that_it_lacks(rt: HostRuntime) -> Result<(), Fail> {
     let alloc = rt.alloc();
-    let build = words(alloc, &["build"])?;
-    for (kind, has) in KINDS {
+    for (kind, (on_x86_64, on_aarch64, on_riscv64)) in KINDS {
         let commands = one_relocation(alloc, "0000000000000000", kind)?;
-        for (number, processor) in ["x86_64", "aarch64", "riscv64"].into_iter().enumerate() {
+        let processors = [
+            ("x86_64", on_x86_64),
+            ("aarch64", on_aarch64),
+            ("riscv64", on_riscv64),
+        ];
+        for (processor, is_there) in processors {
             let keys = format!(in alloc; "\"arch\":\"{processor}\",\"format\":\"elf\"")?;
             let part = part_for(alloc, &keys, &commands)?;
-            if has[number] {
-                let mut host = MemHost::new(alloc, part.as_bytes(), NONE, 8000)?;
-                assert_eq!(rt; run(alloc, &build, &mut host), 0, "{part}");
+            if is_there {
+                takes(&rt, alloc, &part)?;
             } else {
                 let want = format!(in alloc;
                     "part 0 command 1: Backend error: relocation 0: kind {kind} not supported\n"
@@ -344,7 +355,6 @@ fn a_processor_refuses_the_kinds_that_it_lacks(rt: HostRuntime) -> Result<(), Fa
 #[test]
 fn a_field_of_8_bytes_needs_8_bytes(rt: HostRuntime) -> Result<(), Fail> {
     let alloc = rt.alloc();
-    let build = words(alloc, &["build"])?;
     let cases = [
         ("x86_64", "Abs8", "00000000000000"),
         ("aarch64", "Abs8", "00000000000000"),
@@ -366,8 +376,7 @@ fn a_field_of_8_bytes_needs_8_bytes(rt: HostRuntime) -> Result<(), Fail> {
         )?;
         let long = format!(in alloc; "{bytes}00")?;
         let enough = part_for(alloc, &keys, &one_relocation(alloc, &long, kind)?)?;
-        let mut host = MemHost::new(alloc, enough.as_bytes(), NONE, 8000)?;
-        assert_eq!(rt; run(alloc, &build, &mut host), 0, "{enough}");
+        takes(&rt, alloc, &enough)?;
     }
     Ok(())
 }
