@@ -1,8 +1,7 @@
 -- Definitions in JSON: their contents, relocations and references.
-use Rattle.std.specs.Prelude.{◌≡◌, ℕ, ℤ, pos, Bool, true, false, List, [], ◌∷◌, ◌++◌, codes, if◌then◌else◌, Option, Some, None, is_some, option_map, option_and_then}
-use Rattle.std.specs.Str.{bytes_eq}
-use Rattle.serde_json.specs.Data.{Data, Items, no_items}
-use Rattle.serde_json.specs.Find.{get, at, as_str, as_number, as_i64, as_array}
+use Rattle.std.specs.Prelude.{◌≡◌, ℕ, ℤ, pos, Bool, true, false, List, [], ◌∷◌, ◌++◌, codes, if◌then◌else◌, Option, Some, None, is_some, option_and_then}
+use Rattle.serde_json.specs.Data.{Data}
+use Rattle.serde_json.specs.Find.{get, at, as_str, as_number, as_i64}
 use Rattle.ir_core.specs.declared.reloc.Reloc.{Reloc}
 use Rattle.ir_core.specs.declared.reloc.Reloc.TheVariants.{Abs4, Abs8, X86PCRel4, X86CallPCRel4, X86CallPLTRel4, X86GOTPCRel4, X86SecRel, Arm64Call, S390xPCRel32Dbl, S390xPLTRel32Dbl, ElfX86_64TlsGd, MachOX86_64Tlv, MachOAarch64TlsAdrPage21, MachOAarch64TlsAdrPageOff12, Aarch64TlsDescAdrPage21, Aarch64TlsDescLd64Lo12, Aarch64TlsDescAddLo12, Aarch64TlsDescCall, Aarch64AdrGotPage21, Aarch64Ld64GotLo12Nc, Aarch64AdrPrelPgHi21, Aarch64AddAbsLo12Nc, RiscvCallPlt, RiscvTlsGdHi20, RiscvPCRelLo12I, RiscvGotHi20, RiscvPCRelHi20, S390xTlsGd64, S390xTlsGdCall}
 use Rattle.ir_core.specs.declared.reloc.KnownSymbol.{KnownSymbol}
@@ -11,7 +10,7 @@ use Rattle.ir_core.specs.Names.{reloc_name, known_symbol_name}
 use Rattle.cranelift_module.specs.Words.{with_word}
 use Rattle.cranelift_module.specs.declared.reloc.ModuleReloc.{ModuleReloc}
 use Rattle.cranelift_module.specs.declared.reloc.ModuleRelocTarget.{ModuleRelocTarget}
-use Rattle.cranelift_module.specs.declared.reloc.ModuleRelocTarget.TheVariants.{User, LibCall, KnownSymbol, FunctionOffset}
+use Rattle.cranelift_module.specs.declared.reloc.ModuleRelocTarget.TheVariants as targets
 use Rattle.cranelift_module.specs.Call.{Call, define_function, define_data, Contents, bytes, zeros}
 use Rattle.objtool_run.specs.ValueForm.{list_at, pair_of}
 use Rattle.objtool_run.specs.TargetForm.{libcall_named}
@@ -25,23 +24,23 @@ known_symbol_named = with_word known_symbol_name (ElfGlobalOffsetTable ∷ CoffT
 
 -- a function or a data object by its number
 abbrev pub numbered : ℕ → List ℕ → Data → Option ModuleRelocTarget
-numbered namespace key d = u32_at key d >>= λ index. Some (User namespace index)
+numbered namespace key d = u32_at key d >>= λ index. Some (targets.User namespace index)
 
 -- a namespace with an index in it
 abbrev pub user_target : Data → Option ModuleRelocTarget
-user_target d = get (codes "user") d >>= λ value. pair_of value >>= λ pair. Some (User pair.0 pair.1)
+user_target d = get (codes "user") d >>= λ value. pair_of value >>= λ pair. Some (targets.User pair.0 pair.1)
 
 -- a call into the runtime by its name
 abbrev pub libcall_target : Data → Option ModuleRelocTarget
-libcall_target d = text_at (codes "libcall") d >>= λ text. libcall_named text >>= λ call. Some (LibCall call)
+libcall_target d = text_at (codes "libcall") d >>= λ text. libcall_named text >>= λ call. Some (targets.LibCall call)
 
 -- a symbol of the linker by its name
 abbrev pub known_target : Data → Option ModuleRelocTarget
-known_target d = text_at (codes "known") d >>= λ text. known_symbol_named text >>= λ symbol. Some (KnownSymbol symbol)
+known_target d = text_at (codes "known") d >>= λ text. known_symbol_named text >>= λ symbol. Some (targets.KnownSymbol symbol)
 
 -- a place in a function: the function's number, and an offset
 abbrev pub label_target : Data → Option ModuleRelocTarget
-label_target d = get (codes "label") d >>= λ value. pair_of value >>= λ pair. Some (FunctionOffset pair.0 pair.1)
+label_target d = get (codes "label") d >>= λ value. pair_of value >>= λ pair. Some (targets.FunctionOffset pair.0 pair.1)
 
 -- a target that isn't declared: an object with one key, which says of which sort the target is
 abbrev pub outer_target : Data → Option ModuleRelocTarget

@@ -1,5 +1,5 @@
 -- The target of a part in JSON, and the texts of its calls into the runtime.
-use Rattle.std.specs.Prelude.{◌≡◌, ℕ, ◌^◌, ◌++◌, nat_lt, Bool, List, [], ◌∷◌, map, codes, zip, if◌then◌else◌, Option, Some, None, option_and_then}
+use Rattle.std.specs.Prelude.{◌≡◌, ℕ, ◌^◌, ◌++◌, nat_lt, Bool, List, [], ◌∷◌, map, codes, zip, if◌then◌else◌, Option, Some, None, option_and_then, option_map, slice_set}
 use Rattle.serde_json.specs.Data.{Data}
 use Rattle.serde_json.specs.Find.{get, at, as_bool, as_str}
 use Rattle.ir_core.specs.Names.{libcall_name}
@@ -16,10 +16,10 @@ use Rattle.ir_core.specs.declared.target.Environment.{Environment}
 use Rattle.ir_core.specs.declared.target.Environment.TheVariants as environments
 use Rattle.ir_core.specs.declared.target.Version.{Version}
 use Rattle.ir_core.specs.declared.target.Triple.{Triple}
-use Rattle.cranelift_module.specs.LibraryNames.{usual_texts}
+use Rattle.cranelift_module.specs.LibraryNames.{library_place, usual_texts}
 use Rattle.cranelift_module.specs.Words.{with_word}
 use Rattle.objtool_run.specs.ValueForm.{list_at}
-use Rattle.json_form.specs.Form.{◌>>=◌, each_of, or_else, unless_null, text_at, number_in, has_keys_within, with_keys, ended_before}
+use Rattle.json_form.specs.Form.{◌>>=◌, each_of, or_else, unless_null, text_at, number_in, with_keys, ended_before}
 
 -- -- words
 
@@ -161,13 +161,17 @@ all_of read [] = Some []
 all_of read (x ∷ xs) = read x >>= λ b. all_of read xs >>= λ rest. Some (b ∷ rest)
 
 -- the text of a call: that under its name, or else the usual one
-abbrev pub libcall_text : Data → LibCall × List ℕ → Option (List ℕ)
-libcall_text d usual = or_else as_str usual.1 (get (libcall_name usual.0) d)
+abbrev pub libcall_text : Data → LibCall → List ℕ → Option (List ℕ)
+libcall_text d call usual = or_else as_str usual (get (libcall_name call) d)
 
 -- an object of texts under names of calls gives the texts of all calls
 unfoldable pub libcalls_of : Data → Option (List (List ℕ))
-libcalls_of d = with_keys (map libcall_name libcalls) d (all_of (libcall_text d) (zip libcalls usual_texts))
+libcalls_of d = with_keys (map libcall_name libcalls) d (all_of (λ row. libcall_text d row.0 row.1) (zip libcalls usual_texts))
 
 -- the texts of all calls, the usual ones where there is no such object
 abbrev pub libcalls_at : Data → Option (List (List ℕ))
 libcalls_at d = or_else libcalls_of usual_texts (get (codes "libcalls") d)
+
+-- these texts, but of a call the text under its name, where there is one
+abbrev pub with_text : List (List ℕ) → LibCall → Data → Option (List (List ℕ))
+with_text texts call d = or_else (λ value. option_map (λ text. slice_set texts (library_place call) text) (as_str value)) texts (get (libcall_name call) d)

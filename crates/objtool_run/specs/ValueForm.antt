@@ -1,8 +1,5 @@
 -- Forms of JSON values that several objects have.
-use Rattle.std.specs.Prelude.{ℕ, List, Option, Some, option_map}
-use Rattle.std.specs.List.{find}
-use Rattle.std.specs.Str.{bytes_eq}
-use Rattle.std.proofs.Common.{Bor}
+use Rattle.std.specs.Prelude.{ℕ, List, Option, Some}
 use Rattle.serde_json.specs.Data.{Data, Items, no_items}
 use Rattle.serde_json.specs.Find.{get, as_array}
 use Rattle.json_form.specs.Form.{◌>>=◌, or_else, u32_in, ended_before}
@@ -17,7 +14,3 @@ pair_of d = ended_before 2 d do
   first ← u32_in 0 d
   second ← u32_in 1 d
   Some (first, second)
-
--- what stands beside a name in the first of the rows with this name
-abbrev pub row_named : {A : Type 0} → List (Bor (List ℕ) × A) → List ℕ → Option A
-row_named rows name = option_map (λ row. row.1) (find (λ row. bytes_eq row.0.now name) rows)

@@ -1,60 +1,112 @@
 //! Relocations, and what definitions refer to.
 
-ghost use Rattle.std.specs.Prelude.{◌≡◌, [], pos, codes, OnOk, IfErr};
+ghost use Rattle.std.specs.Prelude.{◌≡◌, [], pos, codes, OnOk, IfErr, option_copied};
+ghost use Rattle.std.specs.List.{find};
+ghost use Rattle.std.specs.Str.{bytes_eq};
 ghost use Rattle.serde_json.specs.Find.{get};
 ghost use Rattle.serde_json.specs.View.{view, items_view};
+ghost use Rattle.ir_core.specs.Names.{reloc_name};
 ghost use Rattle.json_form.specs.Form.{Gives, Fails, each_of, or_else};
 ghost use Rattle.objtool_run.specs.DefinitionForm.{known_symbol_named, numbered, user_target, libcall_target, known_target, label_target, outer_target, target_of, kind_of, signed_of, reloc_of, IsAppended};
 
 use crate::script::libcalls::libcall_named;
-use crate::script::values::{pair_of, row_named};
+use crate::script::values::pair_of;
 use cranelift_module::{FuncId, ModuleReloc, ModuleRelocTarget};
 use ir_core::{KnownSymbol, Reloc};
 use json_form::{FormError, has_keys_within, text_at, u32_at, value_at};
 use serde_json::Value;
 use std::alloc::Global;
 
-/// Each kind with its name.
-const KINDS: [(&'static str, Reloc); 29] = [
-    ("Abs4", Reloc::Abs4),
-    ("Abs8", Reloc::Abs8),
-    ("X86PCRel4", Reloc::X86PCRel4),
-    ("X86CallPCRel4", Reloc::X86CallPCRel4),
-    ("X86CallPLTRel4", Reloc::X86CallPLTRel4),
-    ("X86GOTPCRel4", Reloc::X86GOTPCRel4),
-    ("X86SecRel", Reloc::X86SecRel),
-    ("Arm64Call", Reloc::Arm64Call),
-    ("S390xPCRel32Dbl", Reloc::S390xPCRel32Dbl),
-    ("S390xPLTRel32Dbl", Reloc::S390xPLTRel32Dbl),
-    ("ElfX86_64TlsGd", Reloc::ElfX86_64TlsGd),
-    ("MachOX86_64Tlv", Reloc::MachOX86_64Tlv),
-    ("MachOAarch64TlsAdrPage21", Reloc::MachOAarch64TlsAdrPage21),
-    (
-        "MachOAarch64TlsAdrPageOff12",
-        Reloc::MachOAarch64TlsAdrPageOff12,
-    ),
-    ("Aarch64TlsDescAdrPage21", Reloc::Aarch64TlsDescAdrPage21),
-    ("Aarch64TlsDescLd64Lo12", Reloc::Aarch64TlsDescLd64Lo12),
-    ("Aarch64TlsDescAddLo12", Reloc::Aarch64TlsDescAddLo12),
-    ("Aarch64TlsDescCall", Reloc::Aarch64TlsDescCall),
-    ("Aarch64AdrGotPage21", Reloc::Aarch64AdrGotPage21),
-    ("Aarch64Ld64GotLo12Nc", Reloc::Aarch64Ld64GotLo12Nc),
-    ("Aarch64AdrPrelPgHi21", Reloc::Aarch64AdrPrelPgHi21),
-    ("Aarch64AddAbsLo12Nc", Reloc::Aarch64AddAbsLo12Nc),
-    ("RiscvCallPlt", Reloc::RiscvCallPlt),
-    ("RiscvTlsGdHi20", Reloc::RiscvTlsGdHi20),
-    ("RiscvPCRelLo12I", Reloc::RiscvPCRelLo12I),
-    ("RiscvGotHi20", Reloc::RiscvGotHi20),
-    ("RiscvPCRelHi20", Reloc::RiscvPCRelHi20),
-    ("S390xTlsGd64", Reloc::S390xTlsGd64),
-    ("S390xTlsGdCall", Reloc::S390xTlsGdCall),
+/// All kinds.
+const KINDS: [Reloc; 29] = [
+    Reloc::Abs4,
+    Reloc::Abs8,
+    Reloc::X86PCRel4,
+    Reloc::X86CallPCRel4,
+    Reloc::X86CallPLTRel4,
+    Reloc::X86GOTPCRel4,
+    Reloc::X86SecRel,
+    Reloc::Arm64Call,
+    Reloc::S390xPCRel32Dbl,
+    Reloc::S390xPLTRel32Dbl,
+    Reloc::ElfX86_64TlsGd,
+    Reloc::MachOX86_64Tlv,
+    Reloc::MachOAarch64TlsAdrPage21,
+    Reloc::MachOAarch64TlsAdrPageOff12,
+    Reloc::Aarch64TlsDescAdrPage21,
+    Reloc::Aarch64TlsDescLd64Lo12,
+    Reloc::Aarch64TlsDescAddLo12,
+    Reloc::Aarch64TlsDescCall,
+    Reloc::Aarch64AdrGotPage21,
+    Reloc::Aarch64Ld64GotLo12Nc,
+    Reloc::Aarch64AdrPrelPgHi21,
+    Reloc::Aarch64AddAbsLo12Nc,
+    Reloc::RiscvCallPlt,
+    Reloc::RiscvTlsGdHi20,
+    Reloc::RiscvPCRelLo12I,
+    Reloc::RiscvGotHi20,
+    Reloc::RiscvPCRelHi20,
+    Reloc::S390xTlsGd64,
+    Reloc::S390xTlsGdCall,
 ];
+
+fn kind_word(kind: Reloc) -> &'static str
+    ensures { result.now ≡ reloc_name kind }
+{
+    match kind {
+        Reloc::Abs4 => "Abs4",
+        Reloc::Abs8 => "Abs8",
+        Reloc::X86PCRel4 => "X86PCRel4",
+        Reloc::X86CallPCRel4 => "X86CallPCRel4",
+        Reloc::X86CallPLTRel4 => "X86CallPLTRel4",
+        Reloc::X86GOTPCRel4 => "X86GOTPCRel4",
+        Reloc::X86SecRel => "X86SecRel",
+        Reloc::Arm64Call => "Arm64Call",
+        Reloc::S390xPCRel32Dbl => "S390xPCRel32Dbl",
+        Reloc::S390xPLTRel32Dbl => "S390xPLTRel32Dbl",
+        Reloc::ElfX86_64TlsGd => "ElfX86_64TlsGd",
+        Reloc::MachOX86_64Tlv => "MachOX86_64Tlv",
+        Reloc::MachOAarch64TlsAdrPage21 => "MachOAarch64TlsAdrPage21",
+        Reloc::MachOAarch64TlsAdrPageOff12 => "MachOAarch64TlsAdrPageOff12",
+        Reloc::Aarch64TlsDescAdrPage21 => "Aarch64TlsDescAdrPage21",
+        Reloc::Aarch64TlsDescLd64Lo12 => "Aarch64TlsDescLd64Lo12",
+        Reloc::Aarch64TlsDescAddLo12 => "Aarch64TlsDescAddLo12",
+        Reloc::Aarch64TlsDescCall => "Aarch64TlsDescCall",
+        Reloc::Aarch64AdrGotPage21 => "Aarch64AdrGotPage21",
+        Reloc::Aarch64Ld64GotLo12Nc => "Aarch64Ld64GotLo12Nc",
+        Reloc::Aarch64AdrPrelPgHi21 => "Aarch64AdrPrelPgHi21",
+        Reloc::Aarch64AddAbsLo12Nc => "Aarch64AddAbsLo12Nc",
+        Reloc::RiscvCallPlt => "RiscvCallPlt",
+        Reloc::RiscvTlsGdHi20 => "RiscvTlsGdHi20",
+        Reloc::RiscvPCRelLo12I => "RiscvPCRelLo12I",
+        Reloc::RiscvGotHi20 => "RiscvGotHi20",
+        Reloc::RiscvPCRelHi20 => "RiscvPCRelHi20",
+        Reloc::S390xTlsGd64 => "S390xTlsGd64",
+        Reloc::S390xTlsGdCall => "S390xTlsGdCall",
+    }
+}
 
 /// The kind that a name stands for.
 fn kind_of(name: &str) -> Result<Reloc, FormError>
     ensures { Gives (λ kind. kind) result (kind_of name.now) }
 {
-    row_named(&KINDS, name).ok_or(FormError::NotForm)
+    match first_kind(&KINDS, name) {
+        Some(kind) => Ok(*kind),
+        None => Err(FormError::NotForm),
+    }
+}
+
+/// The first of some kinds with this name.
+fn first_kind<'a>(kinds: &'a [Reloc], name: &str) -> Option<&'a Reloc>
+    ensures { option_copied result ≡ find (λ kind. bytes_eq name.now (reloc_name kind)) kinds.now }
+{
+    kinds.iter().find(|kind| has_name(kind, name))
+}
+
+fn has_name(kind: &Reloc, name: &str) -> bool
+    ensures { result ≡ bytes_eq name.now (reloc_name kind.now) }
+{
+    name == kind_word(*kind)
 }
 
 fn known_symbol_named(name: &str) -> Result<KnownSymbol, FormError>

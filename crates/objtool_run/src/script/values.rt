@@ -1,10 +1,9 @@
-//! JSON values that several objects have, and names among the rows of a table.
+//! Readers of JSON values that several objects have.
 
-ghost use Rattle.std.specs.Prelude.{◌≡◌};
 ghost use Rattle.serde_json.specs.Find.{as_str};
 ghost use Rattle.serde_json.specs.View.{view, items_view};
 ghost use Rattle.json_form.specs.Form.{Gives};
-ghost use Rattle.objtool_run.specs.ValueForm.{list_at, pair_of, row_named};
+ghost use Rattle.objtool_run.specs.ValueForm.{list_at, pair_of};
 
 use json_form::{FormError, has_item, u32_in};
 use serde_json::Value;
@@ -40,11 +39,4 @@ pub fn pair_of(value: &Value) -> Result<(u32, u32), FormError>
     let first = u32_in(value, 0)?;
     let second = u32_in(value, 1)?;
     Ok((first, second))
-}
-
-/// What stands beside a name in the first of the rows with this name.
-pub fn row_named<A: Copy>(rows: &[(&'static str, A)], name: &str) -> Option<A>
-    ensures { result ≡ row_named rows.now name.now }
-{
-    rows.iter().find(|row| row.0 == name).map(|row| row.1)
 }
