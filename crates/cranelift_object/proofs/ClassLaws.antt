@@ -300,7 +300,7 @@ found_from test x xs false e more h =
     (found.0, ap (slice_get (x ∷ xs)) place ∙ found.1, found.2)
 
 -- what stands at the first place that passes a test
-found_place : {A : Type 0} (test : A → Bool) (xs : List A) → list_any test xs ≡ true → (y : A) × (slice_get xs (position_or_len test xs) ≡ Some y) × (test y ≡ true)
+pub found_place : {A : Type 0} (test : A → Bool) (xs : List A) → list_any test xs ≡ true → (y : A) × (slice_get xs (position_or_len test xs) ≡ Some y) × (test y ≡ true)
 found_place test [] h = absurd (cc)
 found_place test (x ∷ xs) h = found_from test x xs (test x) refl (found_place test xs) h
 

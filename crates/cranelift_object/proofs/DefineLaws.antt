@@ -48,7 +48,6 @@ use Rattle.cranelift_object.specs.Product.{begun_object, function_mark, function
 use Rattle.cranelift_object.proofs.OpenLaws.{opened_class, number_class}
 use Rattle.cranelift_object.specs.Marking.{with_symbols, functions_in, data_in, marks_of_functions, marks_of_objects}
 use Rattle.cranelift_object.proofs.CreationLaws.{function_stands, data_stands, place_is, places_apart, functions_in-append, data_in-append, functions_numbered, data_numbered, function_within, data_within}
-use Rattle.cranelift_object.proofs.SymbolLaws.{IsPlain}
 use Rattle.cranelift_object.proofs.ObjectLaws.{partial-end, partial_whole, opened_format, opened_section, offset_there}
 
 -- -- definitions of a module
@@ -352,13 +351,9 @@ pub adds : (o : OpenModule) (marks : Marks) (j symbol section align offset : ℕ
 adds o marks j symbol section align offset d later grown left h at now place named aligned stands holds ends =
     ends ∙ (rw (stands, holds, now, place, named, aligned) (sym (definition_step o marks j d h at)))
 
-pub bodies_plain : (o : OpenModule) (marks : Marks) → IsModule o marks → All IsPlain o.state.definitions
-bodies_plain o marks h = All-weaker (IsBody o.state.target (length o.state.functions) (length o.state.objects)) IsPlain (λ d body. body.targets) o.state.definitions h.bodies
-
--- once all definitions are there, the object is that of the state
-pub all_added : (o : OpenModule) (marks : Marks) (n : ℕ) (object : ObjectData) → IsModule o marks → length o.state.definitions ≤ n → object ≡ partial o.settings o.state (take n o.state.definitions) → object ≡ object_of o.settings o.state
-all_added o marks n object h past e =
-    e ∙ ap (partial o.settings o.state) (take_all n o.state.definitions past) ∙ partial_whole o.settings o.state (bodies_plain o marks h)
+-- once all definitions are there, the object has them all
+pub all_added : (o : OpenModule) (n : ℕ) (object : ObjectData) → length o.state.definitions ≤ n → object ≡ partial o.settings o.state (take n o.state.definitions) → object ≡ partial o.settings o.state o.state.definitions
+all_added o n object past e = e ∙ ap (partial o.settings o.state) (take_all n o.state.definitions past)
 
 -- -- the symbols of functions
 

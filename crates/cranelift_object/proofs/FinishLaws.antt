@@ -4,15 +4,14 @@ use Rattle.std.specs.Prelude.{slice_get, option_and_then, flat_map}
 use Rattle.std.specs.Option.{option_or}
 use Rattle.std.specs.List.{All, enumerate_from}
 use Rattle.std.proofs.lemmas.List.{drop_all, map-append}
-use Rattle.std.proofs.lemmas.List.Elements.{All-nil, All-cons, All-head, All-tail}
+use Rattle.std.proofs.lemmas.List.Elements.{All-nil, All-cons}
 use Rattle.std.proofs.lemmas.Option.{get_or_from_slice_get}
 use Rattle.cranelift_object.proofs.FirstCause.{drop_step, row_at}
 use Rattle.cranelift_module.specs.declared.reloc.ModuleReloc.{ModuleReloc}
 use Rattle.cranelift_module.specs.Definitions.{Definition}
 use Rattle.cranelift_module.specs.LinkState.{LinkState}
 use Rattle.cranelift_module.specs.Refusal.{Refusal, first_cause}
-use Rattle.cranelift_module.specs.Texts.{GoesToUser}
-use Rattle.cranelift_object.specs.EndCause.{end_cause, missing_function, missing_data, target_cause, first_missing_function, first_missing_data, first_bad_reference, first_bad_target, IsDeclaredTarget}
+use Rattle.cranelift_object.specs.EndCause.{end_cause, missing_function, missing_data, target_cause, first_missing_function, first_missing_data, first_bad_reference, first_bad_target, HasTarget}
 
 first_of_both : (xs ys : List (Option Refusal)) → first_cause (xs ++ ys) ≡ option_or (first_cause xs) (first_cause ys)
 first_of_both [] ys = refl
@@ -61,11 +60,9 @@ references_step s ds i d below at =
 pub references_end : (s : LinkState) (ds : List Definition) (i : ℕ) → length ds ≤ i → first_bad_target s (flat_map (λ (x : Definition). x.relocs) (drop i ds)) ≡ None
 references_end s ds i h = rw drop_all refl
 
-pub declared_all : (s : LinkState) (rs : List ModuleReloc) → All GoesToUser rs → first_bad_target s rs ≡ None → All (IsDeclaredTarget s) rs
-declared_all s [] all h = All-nil (IsDeclaredTarget s)
-declared_all s (r ∷ rs) all h =
-    All-cons (IsDeclaredTarget s) r rs (All-head GoesToUser r rs all, first_none (target_cause s r.name) (first_bad_target s rs) h)
-    (declared_all s rs (All-tail GoesToUser r rs all) (second_none (target_cause s r.name) (first_bad_target s rs) h))
+all_had : (s : LinkState) (rs : List ModuleReloc) → first_bad_target s rs ≡ None → All (HasTarget s) rs
+all_had s [] h = All-nil (HasTarget s)
+all_had s (r ∷ rs) h = All-cons (HasTarget s) r rs (first_none (target_cause s r.name) (first_bad_target s rs) h) (all_had s rs (second_none (target_cause s r.name) (first_bad_target s rs) h))
 
 good_targets : (s : LinkState) (ds : List Definition) (j : ℕ) (d : Definition) → slice_get ds j ≡ Some d → first_bad_target s (flat_map (λ (x : Definition). x.relocs) ds) ≡ None → first_bad_target s d.relocs ≡ None
 good_targets s [] j d at h = absurd (cc)
@@ -75,9 +72,9 @@ good_targets s (e ∷ ds) zero d at h =
 good_targets s (e ∷ ds) (suc j) d at h =
     good_targets s ds j d at (second_none (first_bad_target s e.relocs) (first_bad_target s (flat_map (λ (x : Definition). x.relocs) ds)) (sym (bad_both s e.relocs (flat_map (λ (x : Definition). x.relocs) ds)) ∙ h))
 
--- where no reference is bad, those of a definition are declared
-pub declared_targets : (s : LinkState) (j : ℕ) (d : Definition) → All GoesToUser d.relocs → slice_get s.definitions j ≡ Some d → first_bad_reference s ≡ None → All (IsDeclaredTarget s) d.relocs
-declared_targets s j d all at h = declared_all s d.relocs all (good_targets s s.definitions j d at h)
+-- where no reference is bad, the targets of a definition can be had
+pub definition_had : (s : LinkState) (j : ℕ) (d : Definition) → slice_get s.definitions j ≡ Some d → first_bad_reference s ≡ None → All (HasTarget s) d.relocs
+definition_had s j d at h = all_had s d.relocs (good_targets s s.definitions j d at h)
 
 -- the cause of the row at a place, and of those behind it
 pub missing_step : {A : Type 0} (missing : ℕ × A → Option Refusal) (rows : List A) (i : ℕ) → i < length rows

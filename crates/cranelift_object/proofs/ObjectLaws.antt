@@ -17,14 +17,18 @@ use Rattle.cranelift_module.specs.Refusal.{is_same_identifier}
 use Rattle.cranelift_object.specs.Settings.{Settings}
 use Rattle.cranelift_object.specs.SectionClass.{Class, section_class}
 use Rattle.cranelift_object.specs.Placing.{Placed, placed, placed_at, sections_used, align_of, room_of}
-use Rattle.cranelift_object.specs.Linked.{defined_at, identifier_symbol, sections_of, section_with, members, object_of, object_relocation, is_unstored_class}
+use Rattle.cranelift_object.specs.Linked.{defined_at, identifier_symbol, extra_symbol, symbols_of, sections_of, section_with, members, object_of, object_relocation, is_unstored_class}
 use Rattle.cranelift_object.specs.Kept.{IsDeclared}
 use Rattle.cranelift_object.specs.Product.{with_symbol_contents, with_relocations, relocated_by}
+use Rattle.cranelift_object.specs.Targets.{extras}
+use Rattle.cranelift_object.specs.Extras.{extra_target, AreExtras}
+use Rattle.cranelift_object.specs.Adding.{with_added}
+use Rattle.cranelift_object.specs.declared.extras.Extra.{Extra}
 use Rattle.cranelift_object.specs.Partial.{placed_of, sections_from, partial, opened, number_behind}
 use Rattle.cranelift_object.proofs.ChangeLaws.{changed_twice}
 use Rattle.cranelift_object.proofs.SectionLaws.{sections_changed, contents_length, grown, relocations_at}
 use Rattle.cranelift_object.proofs.ClassLaws.{placed_of-end, placed_definitions, members_extents, IsShareable, class_there}
-use Rattle.cranelift_object.proofs.SymbolLaws.{IsPlain, symbols_plain, identifiers_changed}
+use Rattle.cranelift_object.proofs.SymbolLaws.{identifiers_changed}
 
 -- -- all definitions
 
@@ -37,10 +41,20 @@ unfolding sections_of
 sections_whole settings s ds =
     ap (λ (classes : List Class). sections_from settings s 0 (sections_used classes) (placed_of settings s ds)) (classes_placed settings s (placed_of settings s ds) ∙ ap (map (section_class settings s)) (placed_definitions settings s ds))
 
--- with all its definitions it is the object of the state
-pub partial_whole : (settings : Settings) (s : LinkState) → All IsPlain s.definitions → partial settings s s.definitions ≡ object_of settings s
+map_twice : {A B C : Type 0} (f : B → C) (g : A → B) (xs : List A) → map f (map g xs) ≡ map (λ x. f (g x)) xs
+map_twice f g [] = refl
+map_twice f g (x ∷ xs) = rw (map_twice f g xs) refl
+
+symbols_whole : (settings : Settings) (s : LinkState) (ps : List Placed) (es : List Extra) → AreExtras settings s es
+    → (file_symbol settings.file_name ∷ map (identifier_symbol s ps) s.created) ++ map (λ (e : Extra). extra_symbol ps (extra_target settings e)) es ≡ symbols_of settings s ps
+unfolding symbols_of extras
+symbols_whole settings s ps es h =
+    ap (λ (ts : List Symbol). (file_symbol settings.file_name ∷ map (identifier_symbol s ps) s.created) ++ ts) (sym (map_twice (extra_symbol ps) (extra_target settings) es) ∙ ap (map (extra_symbol ps)) h.found)
+
+-- with all its definitions, and the symbols of what relocations add, it is the object of the state
+pub partial_whole : (settings : Settings) (s : LinkState) (es : List Extra) → AreExtras settings s es → with_added settings s (partial settings s s.definitions) es ≡ object_of settings s
 unfolding partial object_of placed
-partial_whole settings s h = rw (sections_whole settings s s.definitions, symbols_plain settings s (placed_of settings s s.definitions) h) refl
+partial_whole settings s es h = rw (sections_whole settings s s.definitions, sym (symbols_whole settings s (placed_of settings s s.definitions) es h)) refl
 
 -- -- one more definition
 

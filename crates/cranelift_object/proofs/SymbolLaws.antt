@@ -19,7 +19,6 @@ use Rattle.cranelift_module.specs.Refusal.{is_same_identifier, function_name, da
 use Rattle.cranelift_module.specs.declared.reloc.ModuleReloc.{ModuleReloc}
 use Rattle.cranelift_module.specs.declared.reloc.ModuleRelocTarget.{ModuleRelocTarget}
 use Rattle.cranelift_module.specs.declared.reloc.ModuleRelocTarget.TheVariants.{User, LibCall, KnownSymbol, FunctionOffset}
-use Rattle.cranelift_module.specs.Texts.{GoesToUser, IsUser}
 use Rattle.cranelift_object.specs.Kept.{IsDeclared}
 use Rattle.cranelift_object.proofs.FirstCause.{row_at}
 use Rattle.cranelift_object.specs.Settings.{Settings}
@@ -105,34 +104,3 @@ pub identifiers_changed : (s : LinkState) (ps : List Placed) (p : Placed) (id : 
 identifiers_changed s ps p id r declared e none at apart =
     changed_map (identifier_symbol s ps) (identifier_symbol s (ps ++ p ∷ [])) (defined_symbol p.section p.offset (size_of p.definition.contents)) s.created r id at (symbol_here s ps p id declared e none)
     (λ i y found ne. symbol_elsewhere s ps p y (rw e (apart i y found ne)))
-
--- -- relocations to a namespace and an index add no symbols
-
--- a definition whose relocations go to a namespace and an index
-abbrev pub IsPlain : Definition → Type 0
-IsPlain d = All GoesToUser d.relocs
-
-user_is_none : (settings : Settings) (s : LinkState) (t : ModuleRelocTarget) → IsUser t → is_extra (target_of settings s t) ≡ false
-user_is_none settings s (User namespace index) h = refl
-user_is_none settings s (LibCall call) h = absurd h
-user_is_none settings s (KnownSymbol symbol) h = absurd h
-user_is_none settings s (FunctionOffset function offset) h = absurd h
-
-none_of_relocs : (settings : Settings) (s : LinkState) (rs : List ModuleReloc) → All GoesToUser rs → filter is_extra (map (λ (r : ModuleReloc). target_of settings s r.name) rs) ≡ []
-none_of_relocs settings s [] all = refl
-none_of_relocs settings s (r ∷ rs) all =
-    rw (user_is_none settings s r.name (All-head GoesToUser r rs all)) (none_of_relocs settings s rs (All-tail GoesToUser r rs all))
-
-none_of_definitions : (settings : Settings) (s : LinkState) (ds : List Definition) → All IsPlain ds → filter is_extra (targets settings s ds) ≡ []
-none_of_definitions settings s [] all = refl
-none_of_definitions settings s (d ∷ ds) all =
-    filter-append is_extra (map (λ (r : ModuleReloc). target_of settings s r.name) d.relocs) (targets settings s ds)
-    ∙ (rw (none_of_relocs settings s d.relocs (All-head IsPlain d ds all)) (none_of_definitions settings s ds (All-tail IsPlain d ds all)))
-
-pub no_extras : (settings : Settings) (s : LinkState) → All IsPlain s.definitions → extras settings s ≡ []
-unfolding extras moments
-no_extras settings s h = rw (none_of_definitions settings s s.definitions h) refl
-
-pub symbols_plain : (settings : Settings) (s : LinkState) (ps : List Placed) → All IsPlain s.definitions → symbols_of settings s ps ≡ file_symbol settings.file_name ∷ map (identifier_symbol s ps) s.created
-unfolding symbols_of
-symbols_plain settings s ps h = rw (no_extras settings s h) (append-nil (file_symbol settings.file_name ∷ map (identifier_symbol s ps) s.created))

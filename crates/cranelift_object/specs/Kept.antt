@@ -16,6 +16,7 @@ use Rattle.cranelift_object.specs.Opened.{BuilderData, OpenModule}
 pub record IsBegun (b : BuilderData) : Type 0 where
   pub format : b.target.triple.binary_format ≡ Elf
   pub file_name : zero_byte b.settings.file_name ≡ None
+  pub library_names : All (λ (text : List ℕ). zero_byte text ≡ None) b.settings.library_names
 
 -- one of so many functions, or of so many data objects
 abbrev pub IsDeclared : ℕ → ℕ → FuncOrDataId → Type 0

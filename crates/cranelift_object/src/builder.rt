@@ -1,13 +1,16 @@
 //! What a module is begun with: its target, the file's name and the options.
 
-ghost use Rattle.std.specs.Prelude.{◌≡◌, None, false, map, string_bytes, IfOk, IfErr, OnOk};
+ghost use Rattle.std.specs.Prelude.{◌≡◌, None, Some, false, bytes_eq, slice_get, map, string_bytes, IfOk, IfErr, OnOk};
 ghost use Rattle.cranelift_module.specs.Refusal.{Tells, first_cause, zero_byte};
 ghost use Rattle.cranelift_object.specs.Settings.{plain_settings};
 ghost use Rattle.cranelift_object.specs.Kept.{IsBegun};
+ghost use Rattle.cranelift_object.specs.Extras.{text_of};
+ghost use Rattle.cranelift_module.specs.LibraryNames.{library_place};
+ghost use Rattle.std.specs.List.{position_or_len, position_from};
 ghost use Rattle.cranelift_object.specs.Part.{start_cause, is_supported, is_mach_o};
 
 use cranelift_module::{BackendCause, LibcallNames, ModuleError, ModuleResult, check_no_zero_byte};
-use ir_core::{Architecture, BinaryFormat, TargetIsa};
+use ir_core::{Architecture, BinaryFormat, LibCall, TargetIsa};
 use std::alloc::Global;
 use std::marker::Model;
 
@@ -29,6 +32,9 @@ impl Model for ObjectBuilder {
     ghost Value = { BuilderData };
 
     ghost use Rattle.cranelift_object.specs.Kept.{IsBegun};
+ghost use Rattle.cranelift_object.specs.Extras.{text_of};
+ghost use Rattle.cranelift_module.specs.LibraryNames.{library_place};
+ghost use Rattle.std.specs.List.{position_or_len, position_from};
     ghost use Rattle.cranelift_object.specs.BuilderView.{builder_view};
 
     ghost view = { builder_view };
@@ -104,6 +110,30 @@ impl ObjectBuilder {
         &self.name
     }
 
+    // The text of a library call.
+    pub(crate) fn library_text(&self, call: LibCall) -> &str
+        ensures { slice_get ((self.now).settings).library_names (library_place call) ≡ Some result.now }
+    {
+        self.libcall_names.get(call)
+    }
+
+    // The first place of a text in the table of library calls, or else their number.
+    pub(crate) fn place_of_text(&self, text: &str) -> usize
+        ensures { result ≡ position_or_len (bytes_eq text.now) ((self.now).settings).library_names }
+    {
+        place_of(text, self.libcall_names.texts())
+    }
+
+    // The text at a place of the table of library calls, none past its end.
+    pub(crate) fn text_at(&self, place: usize) -> &str
+        ensures { result.now ≡ text_of (self.now).settings place }
+    {
+        match self.libcall_names.texts().get(place) {
+            Some(text) => text.as_str(),
+            None => "",
+        }
+    }
+
     pub(crate) fn function_sections(&self) -> bool
         ensures { result ≡ ((self.now).settings).function_sections }
     {
@@ -130,6 +160,24 @@ fn is_supported(architecture: Architecture, format: BinaryFormat) -> bool
         }
         _ => false,
     }
+}
+
+// The first place of a text among these, or else their number.
+#[tactic(auto, using(crate::proofs::TextLaws::place_is))]
+fn place_of(text: &str, texts: &[String]) -> usize
+    ensures { result ≡ position_or_len (bytes_eq text.now) (map string_bytes texts.now) }
+{
+    match found_text(text, texts) {
+        Some(place) => place,
+        None => texts.len(),
+    }
+}
+
+// The first place of a text among these.
+fn found_text(text: &str, texts: &[String]) -> Option<usize>
+    ensures { result ≡ position_from (λ other. bytes_eq (string_bytes other) text.now) 0 texts.now }
+{
+    texts.iter().position(|other| other.as_str() == text)
 }
 
 // Refuses the first text that has a zero byte.

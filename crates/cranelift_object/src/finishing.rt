@@ -5,8 +5,8 @@ ghost use Rattle.std.specs.List.{All, list_any};
 ghost use Rattle.std.specs.Int.{is_power_of_two};
 ghost use Rattle.cranelift_module.specs.Refusal.{Tells, is_defined};
 ghost use Rattle.cranelift_module.specs.declared.reloc.ModuleRelocTarget.TheVariants.{FunctionOffset};
-ghost use Rattle.cranelift_object.specs.EndCause.{end_cause, first_missing_function, first_missing_data, first_bad_reference, first_bad_target, target_cause, is_declared, IsDeclaredTarget, function_missing, data_missing};
-ghost use Rattle.cranelift_object.specs.Targets.{target_of, identifier};
+ghost use Rattle.cranelift_object.specs.EndCause.{end_cause, first_missing_function, first_missing_data, first_bad_reference, first_bad_target, target_cause, is_declared, HasTarget, function_missing, data_missing};
+ghost use Rattle.cranelift_object.specs.Extras.{AreExtras};
 ghost use Rattle.cranelift_object.specs.SectionClass.{section_class, unused_class, has_own_section, standard_section, data_section, initialized_section, custom_kind, is_counted};
 ghost use Rattle.cranelift_object.specs.Linked.{object_of, identifier_symbol, function_symbol, data_symbol, scope_of, file_flags, turns_compression_off, object_relocation};
 ghost use Rattle.ir_core.specs.declared.target.BinaryFormat.TheVariants.{Elf};
@@ -19,6 +19,7 @@ ghost use Rattle.cranelift_object.specs.Placing.{align_of};
 ghost use Rattle.cranelift_object.specs.Marking.{with_symbols, marks_of_functions, marks_of_objects};
 
 use crate::definition::Definition;
+use crate::extras::Extras;
 use crate::{ObjectModule, ObjectProduct};
 use cranelift_module::{
     DataDeclaration, DataId, FuncId, FuncOrDataId, FunctionDeclaration, Init, Linkage, Module,
@@ -51,7 +52,9 @@ impl ObjectModule {
         }
         let mut object = self.begun_object()?;
         let symbols = self.add_symbols(&mut object)?;
-        self.add_definitions(&mut object, &symbols)?;
+        let extras = self.extras()?;
+        self.add_definitions(&mut object, &symbols, &extras)?;
+        self.add_extras(&mut object, &symbols, &extras)?;
         Ok(ObjectProduct::new(object, symbols.functions, symbols.objects))
     }
 
@@ -290,14 +293,20 @@ impl ObjectModule {
     }
 
     // Adds the contents of each definition, defines its symbol there, and adds its relocations.
-    fn add_definitions(&self, object: &mut Object, symbols: &Symbols) -> Result<(), AllocError>
+    fn add_definitions(
+        &self,
+        object: &mut Object,
+        symbols: &Symbols,
+        extras: &Extras,
+    ) -> Result<(), AllocError>
         requires begun { object.old ≡ partial (self.now).settings (self.now).state [] }
         requires symbols { AreMarks (self.now).state symbols.now.functions.items symbols.now.objects.items }
+        requires extras { AreExtras (self.now).settings (self.now).state extras.now }
         requires targets { first_bad_reference (self.now).state ≡ None }
-        ensures { OnOk result (object.new ≡ object_of (self.now).settings (self.now).state) }
+        ensures { OnOk result (object.new ≡ partial (self.now).settings (self.now).state (self.now).state.definitions) }
     {
         for number in 0..self.definitions.len() {
-            self.add_definition(object, symbols, number)?;
+            self.add_definition(object, symbols, extras, number)?;
         }
         Ok(())
     }
@@ -307,8 +316,10 @@ impl ObjectModule {
         &self,
         object: &mut Object,
         symbols: &Symbols,
+        extras: &Extras,
         number: usize,
     ) -> Result<(), AllocError>
+        requires extras { AreExtras (self.now).settings (self.now).state extras.now }
         requires number { number < length (self.now).state.definitions }
         requires before { object.old ≡ partial (self.now).settings (self.now).state (take number (self.now).state.definitions) }
         requires symbols { AreMarks (self.now).state symbols.now.functions.items symbols.now.objects.items }
@@ -320,7 +331,8 @@ impl ObjectModule {
         let symbol = self.symbol_of(symbols, definition.identifier());
         let align = self.alignment_of(definition);
         let offset = add_contents(object, symbol, section, definition, align)?;
-        self.add_relocations(object, symbols, section, offset, definition.relocs())?;
+        let relocs = definition.relocs();
+        self.add_relocations(object, symbols, extras, section, offset, relocs)?;
         Ok(())
     }
 
@@ -393,7 +405,7 @@ impl ObjectModule {
     }
 
     // The symbol of an identifier.
-    fn symbol_of(&self, symbols: &Symbols, id: FuncOrDataId) -> SymbolId
+    pub(crate) fn symbol_of(&self, symbols: &Symbols, id: FuncOrDataId) -> SymbolId
         requires symbols { AreMarks (self.now).state symbols.now.functions.items symbols.now.objects.items }
         requires declared { IsDeclared (length (self.now).state.functions) (length (self.now).state.objects) id }
         ensures { result ≡ symbol_number (self.now).state id }
@@ -405,7 +417,7 @@ impl ObjectModule {
     }
 
     // The symbol of a function.
-    fn symbol_of_function(&self, symbols: &Symbols, id: FuncId) -> SymbolId
+    pub(crate) fn symbol_of_function(&self, symbols: &Symbols, id: FuncId) -> SymbolId
         requires symbols { symbols.now.functions.items ≡ function_marks (self.now).state }
         requires declared { id < length (self.now).state.functions }
         ensures { result ≡ symbol_number (self.now).state (Func id) }
@@ -429,18 +441,20 @@ impl ObjectModule {
         &self,
         object: &mut Object,
         symbols: &Symbols,
+        extras: &Extras,
         section: SectionId,
         offset: u128,
         relocs: &[ModuleReloc],
     ) -> Result<(), AllocError>
+        requires extras { AreExtras (self.now).settings (self.now).state extras.now }
         requires section { section < length object.old.sections }
         requires symbols { AreMarks (self.now).state symbols.now.functions.items symbols.now.objects.items }
-        requires targets { All (IsDeclaredTarget (self.now).state) relocs.now }
+        requires targets { All (HasTarget (self.now).state) relocs.now }
         requires offset { offset < 2 ^ 127 + 2 ^ 126 + 65536 }
         ensures { OnOk result (object.new ≡ with_relocations object.old section (map (object_relocation (self.now).settings (self.now).state offset) relocs.now)) }
     {
         for reloc in relocs {
-            let relocation = self.relocation(symbols, offset, reloc)?;
+            let relocation = self.relocation(symbols, extras, offset, reloc)?;
             object.add_relocation(section, relocation)?;
         }
         Ok(())
@@ -451,11 +465,13 @@ impl ObjectModule {
     fn relocation(
         &self,
         symbols: &Symbols,
+        extras: &Extras,
         offset: u128,
         reloc: &ModuleReloc,
     ) -> Result<Relocation, AllocError>
+        requires extras { AreExtras (self.now).settings (self.now).state extras.now }
         requires symbols { AreMarks (self.now).state symbols.now.functions.items symbols.now.objects.items }
-        requires target { IsDeclaredTarget (self.now).state reloc.now }
+        requires target { HasTarget (self.now).state reloc.now }
         requires offset { offset < 2 ^ 127 + 2 ^ 126 + 65536 }
         ensures { IfOk result (λ r. r ≡ object_relocation (self.now).settings (self.now).state offset reloc.now) }
     {
@@ -465,31 +481,12 @@ impl ObjectModule {
         let architecture = self.builder.isa().triple().architecture;
         Ok(Relocation {
             offset: place,
-            symbol: self.symbol_of(symbols, self.target_identifier(reloc)),
+            symbol: self.target_symbol(symbols, extras, reloc.name),
             flags: RelocationFlags::Elf {
                 r_type: elf_number(architecture, reloc.kind).unwrap_or(0),
             },
             addend: reloc.addend,
         })
-    }
-
-    // The identifier that a relocation goes to.
-    fn target_identifier(&self, reloc: &ModuleReloc) -> FuncOrDataId
-        requires { IsDeclaredTarget (self.now).state reloc.now }
-        ensures target { target_of (self.now).settings (self.now).state (reloc.now).name ≡ identifier result }
-        ensures declared { IsDeclared (length (self.now).state.functions) (length (self.now).state.objects) result }
-    {
-        match reloc.name {
-            ModuleRelocTarget::User {
-                namespace: 0,
-                index,
-            } => FuncOrDataId::Func(FuncId::from_u32(index)),
-            ModuleRelocTarget::User {
-                namespace: _,
-                index,
-            } => FuncOrDataId::Data(DataId::from_u32(index)),
-            _ => unreachable!(),
-        }
     }
 }
 

@@ -8,7 +8,7 @@ use Rattle.cranelift_object.specs.Linked.{object_relocation}
 use Rattle.cranelift_object.specs.Product.{symbol_number, with_relocations}
 use Rattle.cranelift_object.proofs.ClassLaws.{used_unshared}
 use Rattle.cranelift_object.proofs.ObjectLaws.{partial_format}
-use Rattle.cranelift_object.proofs.FinishLaws.{declared_targets}
+use Rattle.cranelift_object.proofs.FinishLaws.{definition_had}
 use Rattle.cranelift_object.proofs.DefineLaws.{adding, body_at, aligned_power, opened_undefined, opened_stored, opened_sum, opened_there, opened_offset, later_is, section_is, contents_sections, adds}
 use Rattle.cranelift_object.proofs.backend.ObjectModule.add_definition.Goals as goal
 
@@ -103,8 +103,7 @@ add_relocations-requires-clause-targets c =
     let d : Definition = c.index-definition.result.now in
     let there : d ≡ get_or c.args.self.now.state.definitions c.args.number d = c.index-definition.ensures ∙ ap (λ (o : OpenModule). get_or o.state.definitions c.args.number d) c.self.view_is in
     let at = adding c.args.self.now c.args.number d c.requires.number there in
-    let body = body_at c.args.self.now marks c.args.number d h at in
-    rw c.relocs.ensures (declared_targets c.args.self.now.state c.args.number d body.targets at c.requires.targets)
+    rw c.relocs-relocs.ensures (definition_had c.args.self.now.state c.args.number d at c.requires.targets)
 
 pub add_relocations-requires-clause-offset : goal.add_relocations-requires-clause-offset
 add_relocations-requires-clause-offset c =

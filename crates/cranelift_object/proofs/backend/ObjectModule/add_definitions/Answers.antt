@@ -6,6 +6,5 @@ use Rattle.cranelift_object.proofs.backend.ObjectModule.add_definitions.Goals as
 
 pub returns : goal.returns
 returns c =
-    let h = subst (λ (o : OpenModule). IsModule o (record { functions = c.self.inside.defined.items; objects = c.self.inside.defined_objects.items })) c.self.view_is c.self.invariant in
     let past : length c.args.self.now.state.definitions ≤ c.loop-number.number = omega (arith, c.loop-number-test.false, c.len-number-end.ensures, c.self.inside.definitions.ok.0, ap (λ (o : OpenModule). length o.state.definitions) c.self.view_is) in
-    all_added c.args.self.now _ c.loop-number.number _ h past c.loop-number.invariant
+    all_added c.args.self.now c.loop-number.number _ past c.loop-number.invariant

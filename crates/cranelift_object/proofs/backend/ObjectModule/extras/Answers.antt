@@ -1,0 +1,5 @@
+use Rattle.cranelift_object.proofs.ExtraLaws.{none_noted}
+use Rattle.cranelift_object.proofs.backend.ObjectModule.extras.Goals as goal
+
+pub loop-number-init : goal.loop-number-init
+loop-number-init c = ?
