@@ -11,7 +11,7 @@ use Rattle.cranelift_module.specs.declared.linkage.Linkage.TheVariants.{Import, 
 use Rattle.cranelift_module.specs.Call.{Call, declare_function, declare_anonymous_function, declare_data, declare_anonymous_data}
 use Rattle.cranelift_object.specs.Settings.{Settings}
 use Rattle.cranelift_object.specs.Part.{is_mach_o}
-use Rattle.image_build.specs.Built.{BuildPart, commands, image}
+use Rattle.image_build.specs.Built.{BuildPart, commands}
 use Rattle.objtool_run.specs.TargetForm.{libcalls_at, part_target}
 use Rattle.objtool_run.specs.SignatureForm.{signature_at}
 use Rattle.objtool_run.specs.DefinitionForm.{define_of, define_data_of}
@@ -136,9 +136,3 @@ HasOtherForm input = (d : Data) × HasJson input d × (parts_of d ≡ None)
 -- the input stands for these parts
 abbrev pub StandsFor : List ℕ → List BuildPart → Type 0
 StandsFor input parts = (d : Data) × HasJson input d × (parts_of d ≡ Some parts)
-
--- the parts have fewer commands than there are identifiers
-abbrev pub HasFewCalls : List BuildPart → Type 0
-HasFewCalls [] = Unit {0}
-HasFewCalls (image bytes ∷ parts) = HasFewCalls parts
-HasFewCalls (commands part ∷ parts) = (length part.calls < 4294967295) × HasFewCalls parts
