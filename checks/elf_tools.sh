@@ -1,7 +1,9 @@
 #!/bin/sh
-# Has other programs read and link files that the program built: readelf has to show their sections,
-# relocations and symbols, ld -r has to link them, and a linked program to exit with a number out of its
-# data. Run by hand; it is skipped where the program isn't built or a tool is missing.
+# Has other programs read, link and run what the program built: readelf has to show the sections, relocations
+# and symbols, each kind of relocation of each processor with its number and name, ld -r has to link files, and
+# linked programs to exit with a number out of their data, on x86_64 also one that calls memcpy of the C
+# library, and on aarch64 and riscv64 under qemu. Run by hand; the whole is skipped where the program isn't
+# built or readelf, ld or xxd is missing, and each later part where a tool of its own is.
 set -eu
 top=$(cd "$(dirname "$0")/.." && pwd)
 program=$top/crates/objtool/out/objtool
@@ -40,3 +42,87 @@ ld "$room/exit.o" -o "$room/exit"
 status=0
 "$room/exit" || status=$?
 [ "$status" = 42 ] || { echo "the linked program exits with $status, and not with 42"; exit 1; }
+
+# Every kind of each processor: name in the form, number, name in readelf, size of the field.
+kinds() {
+    cat <<'END'
+x86_64 Abs4 10 R_X86_64_32 4
+x86_64 Abs8 1 R_X86_64_64 8
+x86_64 X86PCRel4 2 R_X86_64_PC32 4
+x86_64 X86CallPCRel4 2 R_X86_64_PC32 4
+x86_64 X86CallPLTRel4 4 R_X86_64_PLT32 4
+x86_64 X86GOTPCRel4 9 R_X86_64_GOTPCREL 4
+x86_64 ElfX86_64TlsGd 19 R_X86_64_TLSGD 4
+aarch64 Abs4 258 R_AARCH64_ABS32 4
+aarch64 Abs8 257 R_AARCH64_ABS64 8
+aarch64 Arm64Call 283 R_AARCH64_CALL26 4
+aarch64 Aarch64AdrGotPage21 311 R_AARCH64_ADR_GOT_PAGE 4
+aarch64 Aarch64Ld64GotLo12Nc 312 R_AARCH64_LD64_GOT_LO12_NC 4
+aarch64 Aarch64AdrPrelPgHi21 275 R_AARCH64_ADR_PREL_PG_HI21 4
+aarch64 Aarch64AddAbsLo12Nc 277 R_AARCH64_ADD_ABS_LO12_NC 4
+aarch64 Aarch64TlsDescAdrPage21 562 R_AARCH64_TLSDESC_ADR_PAGE21 4
+aarch64 Aarch64TlsDescLd64Lo12 563 R_AARCH64_TLSDESC_LD64_LO12 4
+aarch64 Aarch64TlsDescAddLo12 564 R_AARCH64_TLSDESC_ADD_LO12 4
+aarch64 Aarch64TlsDescCall 569 R_AARCH64_TLSDESC_CALL 4
+riscv64 Abs4 1 R_RISCV_32 4
+riscv64 Abs8 2 R_RISCV_64 8
+riscv64 RiscvCallPlt 19 R_RISCV_CALL_PLT 8
+riscv64 RiscvGotHi20 20 R_RISCV_GOT_HI20 4
+riscv64 RiscvTlsGdHi20 22 R_RISCV_TLS_GD_HI20 4
+riscv64 RiscvPCRelHi20 23 R_RISCV_PCREL_HI20 4
+riscv64 RiscvPCRelLo12I 24 R_RISCV_PCREL_LO12_I 4
+END
+}
+# A part with a function that has one relocation of each kind of the processor, one behind the other.
+every_kind() {
+    kinds | awk -v arch="$1" '
+        $1 == arch {
+            relocs = relocs sep "{\"offset\":" at ",\"kind\":\"" $2 "\",\"target\":{\"function\":0},\"addend\":" at "}"
+            sep = ","; at += $5
+            for (k = 0; k < $5; k++) bytes = bytes "00"
+        }
+        BEGIN { at = 0 }
+        END {
+            print "[{\"name\":\"a.o\",\"arch\":\"" arch "\",\"format\":\"elf\",\"commands\":["
+            print "{\"op\":\"declare_function\",\"name\":\"ext\",\"linkage\":\"Import\"},"
+            print "{\"op\":\"declare_function\",\"name\":\"f\",\"linkage\":\"Export\"},"
+            print "{\"op\":\"define_function\",\"id\":1,\"bytes\":\"" bytes "\",\"relocs\":[" relocs "]}]}]"
+        }'
+}
+for arch in x86_64 aarch64 riscv64; do
+    every_kind "$arch" | "$program" build | xxd -r -p > "$room/kinds.o"
+    readelf -rW "$room/kinds.o" > "$room/shown" 2> "$room/complaints"
+    [ ! -s "$room/complaints" ] || { echo "readelf complains of $arch:"; cat "$room/complaints"; exit 1; }
+    # The symbol ext is row 2, behind the null row and the file's.
+    kinds | awk -v arch="$arch" 'BEGIN { at = 0 } $1 == arch { printf "%016x 00000002%08x %s ext + %x\n", at, $3, $4, at; at += $5 }' > "$room/wanted"
+    awk '$3 ~ /^R_/ { print $1, $2, $3, $5, $6, $7 }' "$room/shown" > "$room/rows"
+    cmp -s "$room/wanted" "$room/rows" || { echo "readelf shows other relocations of $arch:"; diff "$room/wanted" "$room/rows"; exit 1; }
+done
+# Programs for other processors.
+for arch in aarch64 riscv64; do
+    linker=$arch-linux-gnu-ld
+    if ! command -v "$linker" >/dev/null 2>&1 || ! command -v "qemu-$arch" >/dev/null 2>&1; then
+        echo "checks/elf_tools.sh: the program for $arch is skipped, no $linker or no qemu-$arch"
+        continue
+    fi
+    "$program" build < "$top/examples/exit_$arch.json" | xxd -r -p > "$room/exit.o"
+    "$linker" "$room/exit.o" -o "$room/exit"
+    status=0
+    "qemu-$arch" "$room/exit" || status=$?
+    [ "$status" = 42 ] || { echo "the linked program for $arch exits with $status, and not with 42"; exit 1; }
+done
+# A program that calls memcpy of the C library and jumps to a label of its own.
+if ! command -v gcc >/dev/null 2>&1; then
+    echo "checks/elf_tools.sh: the program with a library call is skipped, no gcc"
+    exit 0
+fi
+"$program" build < "$top/examples/call_and_label.json" | xxd -r -p > "$room/call.o"
+readelf -srW "$room/call.o" > "$room/shown" 2> "$room/complaints"
+[ ! -s "$room/complaints" ] || { echo "readelf complains:"; cat "$room/complaints"; exit 1; }
+shows 'R_X86_64_PLT32 .* memcpy - 4$'
+shows 'R_X86_64_PC32 .* 0*27 \.L0_39 - 4$'
+shows ' 0 NOTYPE +GLOBAL +DEFAULT +UND memcpy$'
+gcc "$room/call.o" -o "$room/call"
+status=0
+"$room/call" || status=$?
+[ "$status" = 42 ] || { echo "the program with a library call exits with $status, and not with 42"; exit 1; }

@@ -1,22 +1,21 @@
-ghost use Rattle.std.specs.Prelude.{◌≡◌, ◌≢◌, ◌≤◌, ◌<◌, ◌+◌, [], length, IfOk};
-ghost use Rattle.cranelift_object.specs.Commands.{command_view, IsPlainCall};
-ghost use Rattle.ir_core.specs.declared.target.BinaryFormat.TheVariants.{Macho};
+ghost use Rattle.std.specs.Prelude.{◌≡◌, ◌≤◌, ◌<◌, ◌+◌, [], false, length, IfOk};
+ghost use Rattle.cranelift_object.specs.Part.{is_mach_o};
 
 use cranelift_module::{
-    DataDescription, DataId, FuncId, FuncOrDataId, Linkage, Module, ModuleError, ModuleRelocTarget,
-    ModuleResult, default_libcall_names,
+    DataDescription, DataId, FuncId, FuncOrDataId, Linkage, Module, ModuleError, ModuleReloc,
+    ModuleRelocTarget, ModuleResult, default_libcall_names,
 };
 use cranelift_object::{Command, CommandPart, ObjectBuilder, ObjectModule, VERSION, apply};
 use ir_core::{
-    Architecture, BinaryFormat, CallConv, Environment, FuncRef, Function, Signature, System,
-    TargetIsa, Triple,
+    Architecture, BinaryFormat, CallConv, Environment, FuncRef, Function, LibCall, Reloc,
+    Signature, System, TargetIsa, Triple,
 };
 use std::alloc::{AllocError, Global};
 use std::process::Abort;
 use std::test::Fail;
 
 fn target(alloc: Global, architecture: Architecture) -> TargetIsa
-    ensures { result.triple.binary_format ≢ Macho }
+    ensures { is_mach_o result.triple.architecture result.triple.binary_format ≡ false }
 {
     let triple = Triple {
         architecture,
@@ -73,11 +72,16 @@ fn declare_data(module: &mut ObjectModule, name: &str, tls: bool) -> ModuleResul
 }
 
 #[tactic(auto, using(cranelift_object::proofs::ApplyLaws::call_functions, cranelift_object::proofs::ApplyLaws::call_objects))]
-fn define(module: &mut ObjectModule, id: FuncId, bytes: &[u8]) -> ModuleResult<()>
+fn define(
+    module: &mut ObjectModule,
+    id: FuncId,
+    bytes: &[u8],
+    relocs: &[ModuleReloc],
+) -> ModuleResult<()>
     ensures functions { length (module.new).state.functions ≤ length (module.old).state.functions + 1 }
     ensures objects { length (module.new).state.objects ≤ length (module.old).state.objects + 1 }
 {
-    module.define_function_bytes(id, 1, bytes, &[])
+    module.define_function_bytes(id, 1, bytes, relocs)
 }
 
 fn prints(rt: &impl Abort, alloc: Global, error: &ModuleError, expected: &str) -> Result<(), Fail> {
@@ -90,10 +94,29 @@ fn an_exported_function_has_a_file_of_592_bytes(rt: HostRuntime) -> Result<(), F
     let alloc = rt.alloc();
     let mut module = opened(alloc)?;
     let main = declare(&mut module, alloc, "main", Linkage::Export)?;
-    define(&mut module, main, b"\xc3")?;
+    define(&mut module, main, b"\xc3", &[])?;
     let product = module.finish()?;
     assert_eq!(rt; product.functions().len(), 1);
     assert_eq!(rt; product.emit(alloc)?.len(), 592);
+    Ok(())
+}
+
+#[test]
+fn a_library_call_adds_an_undefined_symbol(rt: HostRuntime) -> Result<(), Fail> {
+    let alloc = rt.alloc();
+    let mut module = opened(alloc)?;
+    let caller = declare(&mut module, alloc, "f", Linkage::Export)?;
+    let call = ModuleReloc {
+        offset: 1,
+        kind: Reloc::X86CallPLTRel4,
+        name: ModuleRelocTarget::LibCall(LibCall::Memcpy),
+        addend: -4,
+    };
+    define(&mut module, caller, b"\xe8\0\0\0\0", &[call])?;
+    let product = module.finish()?;
+    assert_eq!(rt; product.functions().len(), 1);
+    assert_eq!(rt; product.object().symbols().len(), 3);
+    assert_eq!(rt; product.emit(alloc)?.len(), 720);
     Ok(())
 }
 
@@ -106,9 +129,7 @@ fn a_processor_that_is_not_built_is_unsupported(rt: HostRuntime) -> Result<(), F
     }
 }
 
-fn declaration(alloc: Global, name: &str) -> Result<Command, AllocError>
-    ensures { IfOk result (λ c. IsPlainCall (command_view c)) }
-{
+fn declaration(alloc: Global, name: &str) -> Result<Command, AllocError> {
     Ok(Command::DeclareFunction {
         name: String::from_str(alloc, name)?,
         linkage: Linkage::Import,
@@ -121,8 +142,6 @@ fn apply_two(
     first: Command,
     second: Command,
 ) -> Result<(), (usize, ModuleError)>
-    requires first { IsPlainCall (command_view first) }
-    requires second { IsPlainCall (command_view second) }
     requires functions { length (module.old).state.functions < 100 }
     requires objects { length (module.old).state.objects < 100 }
 {

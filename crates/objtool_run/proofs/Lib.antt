@@ -4,4 +4,5 @@ pub mod NumberWords
 pub mod Judging
 pub mod Endings
 pub mod PartList
-pub mod Buildable
+pub mod Appending
+pub mod Libcalls

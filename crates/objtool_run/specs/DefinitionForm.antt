@@ -1,27 +1,72 @@
 -- Definitions in JSON: their contents, relocations and references.
-use Rattle.std.specs.Prelude.{◌≡◌, ℕ, ℤ, pos, Bool, true, false, List, [], ◌∷◌, ◌++◌, codes, if◌then◌else◌, Option, Some, None, is_some, option_map, option_and_then}
-use Rattle.std.specs.Str.{bytes_eq}
-use Rattle.serde_json.specs.Data.{Data, Items, no_items}
-use Rattle.serde_json.specs.Find.{get, at, as_str, as_number, as_i64, as_array}
+use Rattle.std.specs.Prelude.{◌≡◌, ℕ, ℤ, pos, Bool, true, false, List, [], ◌∷◌, ◌++◌, codes, if◌then◌else◌, Option, Some, None, is_some, option_and_then}
+use Rattle.serde_json.specs.Data.{Data}
+use Rattle.serde_json.specs.Find.{get, at, as_str, as_number, as_i64}
 use Rattle.ir_core.specs.declared.reloc.Reloc.{Reloc}
-use Rattle.ir_core.specs.declared.reloc.Reloc.TheVariants.{Abs8, X86PCRel4}
+use Rattle.ir_core.specs.declared.reloc.Reloc.TheVariants.{Abs4, Abs8, X86PCRel4, X86CallPCRel4, X86CallPLTRel4, X86GOTPCRel4, X86SecRel, Arm64Call, S390xPCRel32Dbl, S390xPLTRel32Dbl, ElfX86_64TlsGd, MachOX86_64Tlv, MachOAarch64TlsAdrPage21, MachOAarch64TlsAdrPageOff12, Aarch64TlsDescAdrPage21, Aarch64TlsDescLd64Lo12, Aarch64TlsDescAddLo12, Aarch64TlsDescCall, Aarch64AdrGotPage21, Aarch64Ld64GotLo12Nc, Aarch64AdrPrelPgHi21, Aarch64AddAbsLo12Nc, RiscvCallPlt, RiscvTlsGdHi20, RiscvPCRelLo12I, RiscvGotHi20, RiscvPCRelHi20, S390xTlsGd64, S390xTlsGdCall}
+use Rattle.ir_core.specs.declared.reloc.KnownSymbol.{KnownSymbol}
+use Rattle.ir_core.specs.declared.reloc.KnownSymbol.TheVariants.{ElfGlobalOffsetTable, CoffTlsIndex}
+use Rattle.ir_core.specs.Names.{reloc_name, known_symbol_name}
+use Rattle.cranelift_module.specs.Words.{with_word}
 use Rattle.cranelift_module.specs.declared.reloc.ModuleReloc.{ModuleReloc}
 use Rattle.cranelift_module.specs.declared.reloc.ModuleRelocTarget.{ModuleRelocTarget}
-use Rattle.cranelift_module.specs.declared.reloc.ModuleRelocTarget.TheVariants.{User}
+use Rattle.cranelift_module.specs.declared.reloc.ModuleRelocTarget.TheVariants as targets
 use Rattle.cranelift_module.specs.Call.{Call, define_function, define_data, Contents, bytes, zeros}
+use Rattle.objtool_run.specs.ValueForm.{list_at, pair_of}
+use Rattle.objtool_run.specs.TargetForm.{libcall_named}
 use Rattle.json_form.specs.Form.{◌>>=◌, each_of, or_else, number_of, number_at, text_at, u32_at, u32_in, mark_or, hex_at, has_keys_within, with_keys, ended_before}
 
 -- -- what definitions refer to
 
--- a function or a data object by its number
-abbrev pub target_of : Data → Option ModuleRelocTarget
-target_of d =
-    if has_keys_within (codes "function" ∷ []) d then (u32_at (codes "function") d >>= λ n. Some (User 0 n))
-    else with_keys (codes "data" ∷ []) d (u32_at (codes "data") d >>= λ n. Some (User 1 n))
+-- the symbol that a name stands for
+abbrev pub known_symbol_named : List ℕ → Option KnownSymbol
+known_symbol_named = with_word known_symbol_name (ElfGlobalOffsetTable ∷ CoffTlsIndex ∷ [])
 
--- the kinds that are built so far: absolute of 8 bytes, PC-relative of 4
+-- a function or a data object by its number
+abbrev pub numbered : ℕ → List ℕ → Data → Option ModuleRelocTarget
+numbered namespace key d = u32_at key d >>= λ index. Some (targets.User namespace index)
+
+-- a namespace with an index in it
+abbrev pub user_target : Data → Option ModuleRelocTarget
+user_target d = get (codes "user") d >>= λ value. pair_of value >>= λ pair. Some (targets.User pair.0 pair.1)
+
+-- a call into the runtime by its name
+abbrev pub libcall_target : Data → Option ModuleRelocTarget
+libcall_target d = text_at (codes "libcall") d >>= λ text. libcall_named text >>= λ call. Some (targets.LibCall call)
+
+-- a symbol of the linker by its name
+abbrev pub known_target : Data → Option ModuleRelocTarget
+known_target d = text_at (codes "known") d >>= λ text. known_symbol_named text >>= λ symbol. Some (targets.KnownSymbol symbol)
+
+-- a place in a function: the function's number, and an offset
+abbrev pub label_target : Data → Option ModuleRelocTarget
+label_target d = get (codes "label") d >>= λ value. pair_of value >>= λ pair. Some (targets.FunctionOffset pair.0 pair.1)
+
+-- a target that isn't declared: an object with one key, which says of which sort the target is
+abbrev pub outer_target : Data → Option ModuleRelocTarget
+outer_target d =
+    if has_keys_within (codes "libcall" ∷ []) d then libcall_target d
+    else if has_keys_within (codes "known" ∷ []) d then known_target d
+    else with_keys (codes "label" ∷ []) d (label_target d)
+
+-- a target: an object with one key, which says of which sort the target is
+unfoldable pub target_of : Data → Option ModuleRelocTarget
+target_of d =
+    if has_keys_within (codes "function" ∷ []) d then numbered 0 (codes "function") d
+    else if has_keys_within (codes "data" ∷ []) d then numbered 1 (codes "data") d
+    else if has_keys_within (codes "user" ∷ []) d then user_target d
+    else outer_target d
+
+-- all kinds
+abbrev pub kinds : List Reloc
+kinds =
+    Abs4 ∷ Abs8 ∷ X86PCRel4 ∷ X86CallPCRel4 ∷ X86CallPLTRel4 ∷ X86GOTPCRel4 ∷ X86SecRel ∷ Arm64Call ∷ S390xPCRel32Dbl ∷ S390xPLTRel32Dbl ∷ ElfX86_64TlsGd ∷ MachOX86_64Tlv
+    ∷ MachOAarch64TlsAdrPage21 ∷ MachOAarch64TlsAdrPageOff12 ∷ Aarch64TlsDescAdrPage21 ∷ Aarch64TlsDescLd64Lo12 ∷ Aarch64TlsDescAddLo12 ∷ Aarch64TlsDescCall ∷ Aarch64AdrGotPage21
+    ∷ Aarch64Ld64GotLo12Nc ∷ Aarch64AdrPrelPgHi21 ∷ Aarch64AddAbsLo12Nc ∷ RiscvCallPlt ∷ RiscvTlsGdHi20 ∷ RiscvPCRelLo12I ∷ RiscvGotHi20 ∷ RiscvPCRelHi20 ∷ S390xTlsGd64 ∷ S390xTlsGdCall ∷ []
+
+-- the kind that a name stands for
 abbrev pub kind_of : List ℕ → Option Reloc
-kind_of text = if bytes_eq text (codes "Abs8") then Some Abs8 else if bytes_eq text (codes "X86PCRel4") then Some X86PCRel4 else None
+kind_of = with_word reloc_name kinds
 
 -- a signed integer of at most 64 bits
 abbrev pub signed_of : Data → Option ℤ
@@ -47,13 +92,6 @@ abbrev pub IsAppended : {A : Type 0} → List A → List A → Option A → Type
 IsAppended old new None = ⊥
 IsAppended old new (Some x) = new ≡ old ++ x ∷ []
 
--- where the address of a function is written: an offset and a reference
-unfoldable pub function_address_of : Data → Option (ℕ × ℕ)
-function_address_of d = ended_before 2 d do
-  offset ← u32_in 0 d
-  reference ← u32_in 1 d
-  Some (offset, reference)
-
 -- where the address of a data object is written: an offset, a reference and an addend
 unfoldable pub data_address_of : Data → Option (ℕ × ℕ × ℤ)
 data_address_of d = ended_before 3 d do
@@ -62,10 +100,6 @@ data_address_of d = ended_before 3 d do
   addend ← signed_in 2 d
   Some (offset, reference, addend)
 
--- the values of the list under a key, none where there is no such key
-abbrev pub list_at : List ℕ → Data → Option Items
-list_at key d = or_else as_array no_items (get key d)
-
 abbrev pub relocs_at : List ℕ → Data → Option (List ModuleReloc)
 relocs_at key d = list_at key d >>= λ ds. each_of reloc_of ds
 
@@ -73,7 +107,7 @@ abbrev pub targets_at : List ℕ → Data → Option (List ModuleRelocTarget)
 targets_at key d = list_at key d >>= λ ds. each_of target_of ds
 
 abbrev pub function_addresses_at : List ℕ → Data → Option (List (ℕ × ℕ))
-function_addresses_at key d = list_at key d >>= λ ds. each_of function_address_of ds
+function_addresses_at key d = list_at key d >>= λ ds. each_of pair_of ds
 
 abbrev pub data_addresses_at : List ℕ → Data → Option (List (ℕ × ℕ × ℤ))
 data_addresses_at key d = list_at key d >>= λ ds. each_of data_address_of ds

@@ -1,6 +1,8 @@
 pub mod Words
 pub mod Fault
 pub mod SignatureForm
+pub mod ValueForm
+pub mod TargetForm
 pub mod DefinitionForm
 pub mod Script
 pub mod Query

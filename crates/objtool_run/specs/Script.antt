@@ -1,20 +1,18 @@
 -- The list of parts that a JSON value stands for.
-use Rattle.std.specs.Prelude.{◌≡◌, ℕ, ◌<◌, ◌&&◌, Bool, false, List, [], ◌∷◌, length, codes, if◌then◌else◌, Option, Some, None}
+use Rattle.std.specs.Prelude.{◌≡◌, ℕ, ◌<◌, false, List, [], ◌∷◌, length, codes, if◌then◌else◌, Option, Some, None}
 use Rattle.std.specs.Str.{bytes_eq, IsUtf8}
 use Rattle.serde_json.specs.Data.{Data, Items, no_items, item}
 use Rattle.serde_json.specs.Find.{as_array}
 use Rattle.serde_json.specs.Read.{read}
-use Rattle.ir_core.specs.Target.{Target, default_call_conv}
+use Rattle.ir_core.specs.Target.{default_call_conv}
 use Rattle.ir_core.specs.declared.types.CallConv.{CallConv}
-use Rattle.ir_core.specs.declared.target.Architecture.TheVariants.{X86_64}
-use Rattle.ir_core.specs.declared.target.BinaryFormat.TheVariants.{Elf}
-use Rattle.ir_core.specs.declared.target.System.TheVariants as systems
-use Rattle.ir_core.specs.declared.target.Environment.TheVariants as environments
 use Rattle.cranelift_module.specs.declared.linkage.Linkage.{Linkage}
 use Rattle.cranelift_module.specs.declared.linkage.Linkage.TheVariants.{Import, Local, Preemptible, Hidden, Export}
 use Rattle.cranelift_module.specs.Call.{Call, declare_function, declare_anonymous_function, declare_data, declare_anonymous_data}
-use Rattle.cranelift_module.specs.LibraryNames.{usual_texts}
-use Rattle.image_build.specs.Built.{BuildPart, commands, image}
+use Rattle.cranelift_object.specs.Settings.{Settings}
+use Rattle.cranelift_object.specs.Part.{is_mach_o}
+use Rattle.image_build.specs.Built.{BuildPart, commands}
+use Rattle.objtool_run.specs.TargetForm.{libcalls_at, part_target}
 use Rattle.objtool_run.specs.SignatureForm.{signature_at}
 use Rattle.objtool_run.specs.DefinitionForm.{define_of, define_data_of}
 use Rattle.json_form.specs.Form.{◌>>=◌, each_of, text_at, items_at, mark_or, with_keys}
@@ -87,29 +85,29 @@ commands_of convention ds = each_of (command_of convention) ds
 
 -- -- parts
 
--- the target of x86_64 ELF files, without flags
-abbrev pub elf_target : Target
-elf_target = record { triple = record { architecture = X86_64; binary_format = Elf; system = systems.Unknown; version = None; environment = environments.Unknown }; flags = [] }
-
--- a part with these two section options, and the default library texts
-abbrev pub part_with : List ℕ → Bool → Bool → List Call → BuildPart
-part_with name function_sections data_sections calls =
-    commands (record {
-      settings = record { file_name = name; library_names = usual_texts; function_sections = function_sections; data_sections = data_sections };
-      target = elf_target;
-      calls = calls;
-    })
-
-unfoldable pub part_of : Data → Option BuildPart
-part_of d = with_keys (codes "name" ∷ codes "arch" ∷ codes "format" ∷ codes "function_sections" ∷ codes "data_sections" ∷ codes "commands" ∷ []) d do
-  name ← text_at (codes "name") d
-  arch ← text_at (codes "arch") d
-  format ← text_at (codes "format") d
+-- what a part gives a builder beside the calls: both section options are off where it doesn't say so
+unfoldable pub settings_of : Data → Option Settings
+settings_of d = do
+  file_name ← text_at (codes "name") d
+  library_names ← libcalls_at d
   function_sections ← mark_or (codes "function_sections") false d
   data_sections ← mark_or (codes "data_sections") false d
+  Some (record { file_name = file_name; library_names = library_names; function_sections = function_sections; data_sections = data_sections })
+
+abbrev pub part_keys : List (List ℕ)
+part_keys =
+    codes "name" ∷ codes "arch" ∷ codes "format" ∷ codes "system" ∷ codes "version" ∷ codes "environment" ∷ codes "flags" ∷ codes "function_sections" ∷ codes "data_sections"
+    ∷ codes "libcalls" ∷ codes "commands" ∷ []
+
+-- A part of commands. A function that names no convention has the default one of the part's own target. Mach-O
+-- files aren't built yet.
+unfoldable pub part_of : Data → Option BuildPart
+part_of d = with_keys part_keys d do
+  settings ← settings_of d
+  target ← part_target d
   items ← items_at (codes "commands") d
-  calls ← commands_of (default_call_conv elf_target.triple) items
-  if bytes_eq arch (codes "x86_64") && bytes_eq format (codes "elf") then Some (part_with name function_sections data_sections calls) else None
+  calls ← commands_of (default_call_conv target.triple) items
+  if is_mach_o target.triple.architecture target.triple.binary_format then None else Some (commands (record { settings = settings; target = target; calls = calls }))
 
 abbrev pub one_part : Items → Option (List BuildPart)
 one_part no_items = None
@@ -138,9 +136,3 @@ HasOtherForm input = (d : Data) × HasJson input d × (parts_of d ≡ None)
 -- the input stands for these parts
 abbrev pub StandsFor : List ℕ → List BuildPart → Type 0
 StandsFor input parts = (d : Data) × HasJson input d × (parts_of d ≡ Some parts)
-
--- the parts have fewer commands than there are identifiers
-abbrev pub HasFewCalls : List BuildPart → Type 0
-HasFewCalls [] = Unit {0}
-HasFewCalls (image bytes ∷ parts) = HasFewCalls parts
-HasFewCalls (commands part ∷ parts) = (length part.calls < 4294967295) × HasFewCalls parts

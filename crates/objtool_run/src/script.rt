@@ -2,5 +2,9 @@
 
 pub mod command;
 pub mod definition;
+pub mod libcalls;
 pub mod part;
+pub mod reloc;
 pub mod signature;
+pub mod target;
+pub mod values;

@@ -12,6 +12,12 @@ mod definition_tests;
 #[cfg(test)]
 mod files;
 #[cfg(test)]
+mod limit_tests;
+#[cfg(test)]
 mod pe_tests;
 #[cfg(test)]
 mod query_tests;
+#[cfg(test)]
+mod target_files;
+#[cfg(test)]
+mod target_tests;

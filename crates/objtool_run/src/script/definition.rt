@@ -1,16 +1,19 @@
-//! Definitions, each an object of the list `commands`: their contents, relocations and references.
+//! Definitions, each an object of the list `commands`: their contents and references.
 
-ghost use Rattle.std.specs.Prelude.{◌≡◌, ◌<◌, ◌+◌, ◌++◌, [], pos, length, codes, None, OnOk, IfErr, option_map, option_copied};
+ghost use Rattle.std.specs.Prelude.{◌≡◌, ◌<◌, ◌+◌, ◌++◌, length, codes, None, OnOk, option_map, option_copied};
 ghost use Rattle.serde_json.specs.Find.{get};
 ghost use Rattle.serde_json.specs.View.{view, items_view};
 ghost use Rattle.cranelift_module.specs.Init.{init_view, no_description};
 ghost use Rattle.cranelift_object.specs.Command.{command_view};
-ghost use Rattle.json_form.specs.Form.{Gives, Fails, each_of, or_else, number_of, has_keys_within};
-ghost use Rattle.objtool_run.specs.DefinitionForm.{target_of, kind_of, signed_of, signed_in, reloc_of, IsAppended, function_address_of, data_address_of, list_at, define_of, contents_at, align_at, section_at, definition_keys, define_data_of};
+ghost use Rattle.json_form.specs.Form.{Gives, each_of, or_else, number_of, has_keys_within};
+ghost use Rattle.objtool_run.specs.ValueForm.{pair_of};
+ghost use Rattle.objtool_run.specs.DefinitionForm.{signed_in, data_address_of, define_of, contents_at, align_at, section_at, definition_keys, define_data_of};
 
-use cranelift_module::{DataDescription, DataId, FuncId, Init, ModuleReloc, ModuleRelocTarget};
+use crate::script::reloc::{relocs_in, targets_in};
+use crate::script::values::{list_at, pair_of};
+use cranelift_module::{DataDescription, DataId, FuncId, Init, ModuleRelocTarget};
 use cranelift_object::Command;
-use ir_core::{FuncRef, GlobalValue, Reloc};
+use ir_core::{FuncRef, GlobalValue};
 use json_form::{
     FormError, has_item, has_keys_within, hex_at, mark_or, number_at, number_of, text_at, u32_at,
     u32_in, value_at,
@@ -20,62 +23,6 @@ use std::alloc::{AllocError, Global};
 
 /// A description refers to fewer functions, and to fewer data objects, than there are references.
 const REFERENCE_LIMIT: usize = 4_294_967_295;
-
-/// A function or a data object by its number.
-fn target_of(value: &Value) -> Result<ModuleRelocTarget, FormError>
-    ensures { Gives (λ t. t) result (target_of (view value.now)) }
-{
-    if has_keys_within(value, &["function"]) {
-        let index = u32_at(value, "function")?;
-        return Ok(ModuleRelocTarget::user(0, index));
-    }
-    if !has_keys_within(value, &["data"]) {
-        return Err(FormError::NotForm);
-    }
-    let index = u32_at(value, "data")?;
-    Ok(ModuleRelocTarget::user(1, index))
-}
-
-/// The kinds that are built so far.
-fn kind_of(text: &str) -> Result<Reloc, FormError>
-    ensures { Gives (λ k. k) result (kind_of text.now) }
-{
-    match text {
-        "Abs8" => Ok(Reloc::Abs8),
-        "X86PCRel4" => Ok(Reloc::X86PCRel4),
-        _ => Err(FormError::NotForm),
-    }
-}
-
-/// A signed integer of at most 64 bits.
-fn signed_of(value: &Value) -> Result<i64, FormError>
-    ensures { Gives (λ z. z) result (signed_of (view value.now)) }
-{
-    value.as_i64().ok_or(FormError::NotForm)
-}
-
-/// The addend of a relocation, 0 where it has none.
-fn addend_at(value: &Value) -> Result<i64, FormError>
-    ensures { Gives (λ z. z) result (or_else signed_of (pos 0) (get (codes "addend") (view value.now))) }
-{
-    match value.get("addend") {
-        Some(addend) => signed_of(addend),
-        None => Ok(0),
-    }
-}
-
-/// Where the address of a function is written.
-#[tactic(auto, unfolding(crate::specs::DefinitionForm::function_address_of))]
-fn function_address_of(value: &Value) -> Result<(u32, u32), FormError>
-    ensures { Gives (λ a. a) result (function_address_of (view value.now)) }
-{
-    if has_item(value, 2) {
-        return Err(FormError::NotForm);
-    }
-    let offset = u32_in(value, 0)?;
-    let reference = u32_in(value, 1)?;
-    Ok((offset, reference))
-}
 
 /// The signed integer of at most 64 bits at a place of a list.
 fn signed_in(value: &Value, place: usize) -> Result<i64, FormError>
@@ -101,85 +48,13 @@ fn data_address_of(value: &Value) -> Result<(u32, u32, i64), FormError>
     Ok((offset, reference, addend))
 }
 
-/// The values of the list under a key, none where there is no such key.
-fn list_at<'a>(value: &'a Value, key: &str) -> Result<&'a [Value], FormError>
-    ensures { Gives (λ v. items_view v.now) result (list_at key.now (view value.now)) }
-{
-    match value.get(key) {
-        Some(list) => match list.as_array() {
-            Some(values) => Ok(values.as_slice()),
-            None => Err(FormError::NotForm),
-        },
-        None => Ok(&[]),
-    }
-}
-
-/// The relocations of a list.
-fn relocs_in(alloc: Global, values: &[Value]) -> Result<Vec<ModuleReloc>, FormError>
-    ensures { Gives (λ v. v.items) result (each_of reloc_of (items_view values.now)) }
-{
-    let mut relocs = Vec::new(alloc);
-    push_relocs(&mut relocs, values)?;
-    Ok(relocs)
-}
-
-/// Appends the relocations of a list where nothing is yet.
-fn push_relocs(relocs: &mut Vec<ModuleReloc>, values: &[Value]) -> Result<(), FormError>
-    requires { relocs.old.items ≡ [] }
-    ensures { Gives (λ done. relocs.new.items) result (each_of reloc_of (items_view values.now)) }
-{
-    for value in values {
-        match push_reloc(relocs, value) {
-            Ok(()) => {}
-            Err(error) => return Err(error),
-        }
-    }
-    Ok(())
-}
-
-/// Appends a relocation.
-#[tactic(auto, unfolding(crate::specs::DefinitionForm::reloc_of))]
-fn push_reloc(relocs: &mut Vec<ModuleReloc>, value: &Value) -> Result<(), FormError>
-    ensures ok { OnOk result (IsAppended relocs.old.items relocs.new.items (reloc_of (view value.now))) }
-    ensures err { IfErr result (λ e. Fails e (reloc_of (view value.now))) }
-{
-    if !has_keys_within(value, &["offset", "kind", "target", "addend"]) {
-        return Err(FormError::NotForm);
-    }
-    let offset = u32_at(value, "offset")?;
-    let kind = kind_of(text_at(value, "kind")?)?;
-    let name = target_of(value_at(value, "target")?)?;
-    let addend = addend_at(value)?;
-    relocs.push(ModuleReloc {
-        offset,
-        kind,
-        name,
-        addend,
-    })?;
-    Ok(())
-}
-
-/// The targets of a list.
-fn targets_in(alloc: Global, values: &[Value]) -> Result<Vec<ModuleRelocTarget>, FormError>
-    ensures { Gives (λ v. v.items) result (each_of target_of (items_view values.now)) }
-{
-    let mut targets = Vec::new(alloc);
-    for value in values {
-        match target_of(value) {
-            Ok(target) => targets.push(target)?,
-            Err(error) => return Err(error),
-        }
-    }
-    Ok(targets)
-}
-
 /// The addresses of functions of a list.
 fn function_addresses_in(alloc: Global, values: &[Value]) -> Result<Vec<(u32, u32)>, FormError>
-    ensures { Gives (λ v. v.items) result (each_of function_address_of (items_view values.now)) }
+    ensures { Gives (λ v. v.items) result (each_of pair_of (items_view values.now)) }
 {
     let mut addresses = Vec::new(alloc);
     for value in values {
-        match function_address_of(value) {
+        match pair_of(value) {
             Ok(address) => addresses.push(address)?,
             Err(error) => return Err(error),
         }

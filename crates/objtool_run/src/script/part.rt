@@ -5,93 +5,88 @@ ghost use Rattle.std.specs.List.{All};
 ghost use Rattle.serde_json.specs.View.{view, items_view};
 ghost use Rattle.cranelift_object.specs.Command.{command_view};
 ghost use Rattle.image_build.specs.Parts.{part_view, IsBuildable};
-ghost use Rattle.json_form.specs.Form.{Gives};
-ghost use Rattle.objtool_run.specs.Script.{elf_target, part_of, part_with, parts_of, commands_of, StandsFor, HasFewCalls};
+ghost use Rattle.json_form.specs.Form.{Gives, has_keys_within};
+ghost use Rattle.objtool_run.specs.Script.{settings_of, part_keys, part_of, parts_of, StandsFor};
 ghost use Rattle.objtool_run.specs.Run.{ExplainsBuild, IsOfInput};
 
 use crate::fault::Fault;
 use crate::script::command::commands_of;
-use cranelift_module::default_libcall_names;
-use cranelift_object::{Command, CommandPart};
+use crate::script::libcalls::libcalls_at;
+use crate::script::target::{is_mach_o, part_target};
+use cranelift_object::CommandPart;
 use image_build::Part;
-use ir_core::{Architecture, BinaryFormat, Environment, System, TargetIsa, Triple};
+use ir_core::TargetIsa;
 use json_form::{FormError, has_keys_within, items_at, mark_or, text_at};
 use serde_json::Value;
-use std::alloc::{AllocError, Global};
+use std::alloc::Global;
 
 /// A part has fewer commands than there are identifiers.
 const COMMAND_LIMIT: usize = 4_294_967_295;
 
-/// The target of x86_64 ELF files, without flags.
-fn elf_target(alloc: Global) -> TargetIsa
-    ensures { result ≡ elf_target }
+/// Whether an object has no keys beside those of a part.
+fn has_part_keys(value: &Value) -> bool
+    ensures { result ≡ has_keys_within part_keys (view value.now) }
 {
-    let triple = Triple {
-        architecture: Architecture::X86_64,
-        binary_format: BinaryFormat::Elf,
-        system: System::Unknown,
-        version: None,
-        environment: Environment::Unknown,
-    };
-    TargetIsa::new(alloc, triple)
+    let keys = [
+        "name",
+        "arch",
+        "format",
+        "system",
+        "version",
+        "environment",
+        "flags",
+        "function_sections",
+        "data_sections",
+        "libcalls",
+        "commands",
+    ];
+    has_keys_within(value, &keys)
 }
 
-/// A part for x86_64 ELF, with these two section options and the usual library texts.
-fn part_with(
-    alloc: Global,
-    name: &str,
-    function_sections: bool,
-    data_sections: bool,
-    commands: Vec<Command>,
-) -> Result<Part, AllocError>
-    ensures { IfOk result (λ part. part_view part ≡ part_with name.now function_sections data_sections (map command_view commands.items)) }
+/// A part for a target, without commands.
+#[tactic(auto, unfolding(crate::specs::Script::settings_of))]
+fn begin(alloc: Global, value: &Value, isa: TargetIsa) -> Result<CommandPart, FormError>
+    ensures settings { Gives (λ part. part.settings) result (settings_of (view value.now)) }
+    ensures target { IfOk result (λ part. part.target ≡ isa) }
 {
-    let names = default_libcall_names(alloc)?;
-    let mut part = CommandPart::new(alloc, name.as_bytes(), elf_target(alloc), names)?;
+    let name = text_at(value, "name")?;
+    let names = libcalls_at(alloc, value)?;
+    let function_sections = mark_or(value, "function_sections", false)?;
+    let data_sections = mark_or(value, "data_sections", false)?;
+    let mut part = CommandPart::new(alloc, name.as_bytes(), isa, names)?;
     part.set_function_sections(function_sections);
     part.set_data_sections(data_sections);
-    part.set_commands(commands);
-    Ok(Part::Commands(part))
+    Ok(part)
 }
 
 /// The part that an object stands for.
 #[tactic(auto, unfolding(crate::specs::Script::part_of))]
 fn part_of(alloc: Global, value: &Value) -> Result<Part, FormError>
     ensures form { Gives part_view result (part_of (view value.now)) }
-    ensures few { IfOk result (λ part. HasFewCalls (part_view part ∷ [])) }
+    ensures buildable { IfOk result (λ part. IsBuildable (part_view part ∷ [])) }
 {
-    let keys = [
-        "name",
-        "arch",
-        "format",
-        "function_sections",
-        "data_sections",
-        "commands",
-    ];
-    if !has_keys_within(value, &keys) {
+    if !has_part_keys(value) {
         return Err(FormError::NotForm);
     }
-    let name = text_at(value, "name")?;
-    let arch = text_at(value, "arch")?;
-    let format = text_at(value, "format")?;
-    let function_sections = mark_or(value, "function_sections", false)?;
-    let data_sections = mark_or(value, "data_sections", false)?;
-    let convention = elf_target(alloc).default_call_conv();
+    let isa = part_target(alloc, value)?;
+    if is_mach_o(isa.triple()) {
+        return Err(FormError::NotForm);
+    }
+    let convention = isa.default_call_conv();
+    let mut part = begin(alloc, value, isa)?;
     let commands = commands_of(alloc, convention, items_at(value, "commands")?)?;
     if commands.len() >= COMMAND_LIMIT {
         return Err(FormError::OutOfMemory);
     }
-    if arch != "x86_64" || format != "elf" {
-        return Err(FormError::NotForm);
-    }
-    Ok(part_with(alloc, name, function_sections, data_sections, commands)?)
+    part.set_commands(commands);
+    Ok(Part::Commands(part))
 }
 
 /// The parts that a list stands for: one, so far.
 #[tactic(auto, using(crate::proofs::PartList::one_part_refused, crate::proofs::PartList::one_part_taken, crate::proofs::PartList::one_part_stopped))]
 fn parts_of(alloc: Global, value: &Value) -> Result<Vec<Part>, FormError>
     ensures form { Gives (λ v. map part_view v.items) result (parts_of (view value.now)) }
-    ensures few { IfOk result (λ parts. HasFewCalls (map part_view parts.items)) }
+    ensures buildable { IfOk result (λ parts. IsBuildable (map part_view parts.items)) }
 {
     let Some(values) = value.as_array() else {
         return Err(FormError::NotForm);

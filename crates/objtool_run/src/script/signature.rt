@@ -2,10 +2,11 @@
 
 ghost use Rattle.std.specs.Prelude.{◌≡◌, ◌++◌, IfOk, OnOk, [], codes};
 ghost use Rattle.serde_json.specs.View.{view, items_view};
-ghost use Rattle.serde_json.specs.Find.{get, as_str};
+ghost use Rattle.serde_json.specs.Find.{get};
 ghost use Rattle.json_form.specs.Form.{Gives, or_else};
 ghost use Rattle.objtool_run.specs.SignatureForm.{type_named, extension_named, purpose_named, convention_named, extension_of, purpose_of, convention_of, param_object, param_of, params_in, params_of, signature_object, signature_at};
 
+use crate::script::values::text_of;
 use ir_core::{AbiParam, ArgumentExtension, ArgumentPurpose, CallConv, Signature, ValueType};
 use json_form::{FormError, has_keys_within, text_at};
 use serde_json::Value;
@@ -59,13 +60,6 @@ fn convention_named(text: &str) -> Result<CallConv, FormError>
         "AppleAarch64" => Ok(CallConv::AppleAarch64),
         _ => Err(FormError::NotForm),
     }
-}
-
-/// The text that a value is.
-fn text_of(value: &Value) -> Result<&str, FormError>
-    ensures { Gives (λ s. s.now) result (as_str (view value.now)) }
-{
-    value.as_str().ok_or(FormError::NotForm)
 }
 
 fn extension_at(value: &Value) -> Result<ArgumentExtension, FormError>

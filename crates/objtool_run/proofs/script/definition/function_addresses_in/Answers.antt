@@ -3,16 +3,16 @@ use Rattle.std.proofs.lemmas.List.{map-id}
 use Rattle.cranelift_module.specs.declared.reloc.ModuleReloc.{ModuleReloc}
 use Rattle.cranelift_module.specs.declared.reloc.ModuleRelocTarget.{ModuleRelocTarget}
 use Rattle.json_form.proofs.EachOf.{each_step, each_stop, each_end}
-use Rattle.objtool_run.specs.DefinitionForm.{function_address_of}
+use Rattle.objtool_run.specs.ValueForm.{pair_of}
 use Rattle.objtool_run.proofs.script.definition.function_addresses_in.Goals as goal
 
 pub returns-in-Err : goal.returns-in-Err
-returns-in-Err c = each_stop function_address_of c.args.values.now c.loop-value.value-index c.value-item.result _ c.in-Err.error _ c.loop-value-test.true c.value-item.is c.loop-value.invariant c.in-Err.ensures
+returns-in-Err c = each_stop pair_of c.args.values.now c.loop-value.value-index c.value-item.result _ c.in-Err.error _ c.loop-value-test.true c.value-item.is c.loop-value.invariant c.in-Err.ensures
 
 pub loop-value-preserved : goal.loop-value-preserved
 loop-value-preserved c =
-    each_step function_address_of (λ (x : ℕ × ℕ). x) c.args.values.now c.loop-value.value-index c.value-item.result c.loop-value.addresses.items c.push.new.self.items c.in-Ok.address _
+    each_step pair_of (λ (x : ℕ × ℕ). x) c.args.values.now c.loop-value.value-index c.value-item.result c.loop-value.addresses.items c.push.new.self.items c.in-Ok.address _
     c.loop-value-test.true c.value-item.is c.in_ok-push-in-Ok.ensures.items c.loop-value.invariant c.in-Ok.ensures
 
 pub returns : goal.returns
-returns c = each_end function_address_of c.args.values.now c.loop-value.value-index _ _ c.loop-value-test.false c.loop-value.invariant ∙ ap Some (map-id c.loop-value.addresses.items)
+returns c = each_end pair_of c.args.values.now c.loop-value.value-index _ _ c.loop-value-test.false c.loop-value.invariant ∙ ap Some (map-id c.loop-value.addresses.items)

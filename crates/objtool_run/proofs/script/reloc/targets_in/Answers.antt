@@ -1,10 +1,9 @@
-use Rattle.std.proofs.Common.{ℕ, ℤ, ◌∙◌, ap, Some}
+use Rattle.std.proofs.Common.{◌∙◌, ap, Some}
 use Rattle.std.proofs.lemmas.List.{map-id}
-use Rattle.cranelift_module.specs.declared.reloc.ModuleReloc.{ModuleReloc}
 use Rattle.cranelift_module.specs.declared.reloc.ModuleRelocTarget.{ModuleRelocTarget}
 use Rattle.json_form.proofs.EachOf.{each_step, each_stop, each_end}
 use Rattle.objtool_run.specs.DefinitionForm.{target_of}
-use Rattle.objtool_run.proofs.script.definition.targets_in.Goals as goal
+use Rattle.objtool_run.proofs.script.reloc.targets_in.Goals as goal
 
 pub returns-in-Err : goal.returns-in-Err
 returns-in-Err c = each_stop target_of c.args.values.now c.loop-value.value-index c.value-item.result _ c.in-Err.error _ c.loop-value-test.true c.value-item.is c.loop-value.invariant c.in-Err.ensures

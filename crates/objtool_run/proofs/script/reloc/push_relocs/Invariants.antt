@@ -3,7 +3,7 @@ use Rattle.serde_json.specs.View.{items_view}
 use Rattle.json_form.specs.Form.{each_of}
 use Rattle.json_form.proofs.EachOf.{with_front}
 use Rattle.objtool_run.specs.DefinitionForm.{reloc_of}
-use Rattle.objtool_run.proofs.script.definition.push_relocs.Given as goal
+use Rattle.objtool_run.proofs.script.reloc.push_relocs.Given as goal
 
 -- those so far, and those of the rest, are all
 abbrev pub invariant-loop-value : goal.invariant-loop-value

@@ -4,8 +4,8 @@ use Rattle.serde_json.specs.View.{view}
 use Rattle.cranelift_module.specs.declared.reloc.ModuleReloc.{ModuleReloc}
 use Rattle.json_form.proofs.EachOf.{each_step, each_stop, each_end}
 use Rattle.objtool_run.specs.DefinitionForm.{reloc_of}
-use Rattle.objtool_run.proofs.Buildable.{appended}
-use Rattle.objtool_run.proofs.script.definition.push_relocs.Goals as goal
+use Rattle.objtool_run.proofs.Appending.{appended}
+use Rattle.objtool_run.proofs.script.reloc.push_relocs.Goals as goal
 
 pub returns-in-Err : goal.returns-in-Err
 returns-in-Err c = each_stop reloc_of c.args.values.now c.loop-value.value-index c.value-item.result _ c.in-Err.error _ c.loop-value-test.true c.value-item.is c.loop-value.invariant c.in-Err.ensures.err
