@@ -1,7 +1,9 @@
 -- The symbols that relocations add, one after the other.
-use Rattle.std.proofs.Common.{◌≡◌, ℕ, zero, suc, ◌+◌, ◌<◌, ◌≤◌, ◌++◌, ◌∷◌, List, [], length, map, take, get_or, Some, refl, ap, sym, ◌∙◌, arith, append_assoc, length-append}
+use Rattle.std.proofs.Common.{◌≡◌, ℕ, zero, suc, ◌+◌, ◌<◌, ◌≤◌, ◌++◌, ◌∷◌, List, [], length, map, take, get_or, Some, refl, ap, sym, ◌∙◌, subst, arith, append_assoc, length-append}
 use Rattle.std.specs.Prelude.{slice_get, option_map}
 use Rattle.std.proofs.lemmas.List.{append-nil, map-append, take_more, take_all}
+use Rattle.std.proofs.lemmas.List.Elements.{All-get_or}
+use Rattle.std.specs.List.{All}
 use Rattle.std.proofs.lemmas.Option.{slice_get-map, slice_get_within}
 use Rattle.object_core.specs.declared.symbol.Symbol.{Symbol}
 use Rattle.object_core.specs.Object.{ObjectData}
@@ -52,7 +54,7 @@ get_front (z ∷ xs) ys zero x h = h
 get_front (z ∷ xs) ys (suc k) x h = get_front xs ys k x h
 
 pub get_behind : {A : Type 0} (xs ys : List A) (n k : ℕ) → n ≡ length xs + k → slice_get (xs ++ ys) n ≡ slice_get ys k
-get_behind [] ys n k e = ap (slice_get ys) e
+get_behind [] ys n k e = ap (slice_get ys) (omega (arith, e))
 get_behind (z ∷ xs) ys zero k e = absurd (omega (arith, e))
 get_behind (z ∷ xs) ys (suc n) k e = get_behind xs ys n k (omega (arith, e))
 
@@ -69,12 +71,22 @@ identifier_there o marks es id h declared =
     ap (slice_get ((file_symbol o.settings.file_name ∷ map (identifier_symbol o.state ps) o.state.created) ++ map f es)) number
     ∙ get_front (map (identifier_symbol o.state ps) o.state.created) (map f es) created.0 (identifier_symbol o.state ps id) there
 
-pub has_identifiers : (o : OpenModule) (marks : Marks) (object : ObjectData) (es : List Extra) → IsModule o marks → object ≡ with_added o.settings o.state (partial o.settings o.state o.state.definitions) es → HasIdentifiers o.settings o.state object
-has_identifiers o marks object es h e id declared =
-    ap (λ (x : ObjectData). slice_get x.symbols (symbol_number o.state id)) e ∙ identifier_there o marks es id h declared
+pub has_identifiers : (o : OpenModule) (marks : Marks) (object : ObjectData) → IsModule o marks → object ≡ partial o.settings o.state o.state.definitions → HasIdentifiers o.settings o.state object
+has_identifiers o marks object h e id declared =
+    ap (λ (x : ObjectData). slice_get x.symbols (symbol_number o.state id)) (e ∙ added_none o.settings o.state (partial o.settings o.state o.state.definitions)) ∙ identifier_there o marks [] id h declared
+
+pub keeps_identifiers : (settings : Settings) (s : LinkState) (o object : ObjectData) (es : List Extra) → HasIdentifiers settings s o → object ≡ with_added settings s o es → HasIdentifiers settings s object
+keeps_identifiers settings s o object es h e id declared =
+    ap (λ (x : ObjectData). slice_get x.symbols (symbol_number s id)) e ∙ get_front o.symbols (map (λ (x : Extra). extra_symbol (placed settings s) (extra_target settings x)) es) (symbol_number s id) (identifier_symbol s (placed settings s) id) (h id declared)
 
 -- the function of a label that can be had is declared
 pub of_function : (settings : Settings) (s : LinkState) (e : Extra) → IsHad s (extra_target settings e) → IsOfFunction s e
 of_function settings s (Library p) h = tt
 of_function settings s (Known k) h = tt
 of_function settings s (Label f o) h = h.0
+
+-- that of each label of a list
+pub function_at : (settings : Settings) (s : LinkState) (es items : List Extra) (i : ℕ) (e : Extra) → All (λ (x : Extra). IsHad s (extra_target settings x)) es → items ≡ es → i < length items → e ≡ get_or items i e → IsOfFunction s e
+function_at settings s es items i e all same below at =
+    let had = All-get_or (λ (x : Extra). IsHad s (extra_target settings x)) items i e below (subst (All (λ (x : Extra). IsHad s (extra_target settings x))) (sym same) all) in
+    of_function settings s e (subst (λ (x : Extra). IsHad s (extra_target settings x)) (sym at) had)

@@ -48,7 +48,7 @@ use Rattle.cranelift_object.specs.Product.{begun_object, function_mark, function
 use Rattle.cranelift_object.proofs.OpenLaws.{opened_class, number_class}
 use Rattle.cranelift_object.specs.Marking.{with_symbols, functions_in, data_in, marks_of_functions, marks_of_objects}
 use Rattle.cranelift_object.proofs.CreationLaws.{function_stands, data_stands, place_is, places_apart, functions_in-append, data_in-append, functions_numbered, data_numbered, function_within, data_within}
-use Rattle.cranelift_object.proofs.ObjectLaws.{partial-end, partial_whole, opened_format, opened_section, offset_there}
+use Rattle.cranelift_object.proofs.ObjectLaws.{partial-end, opened_format, opened_section, offset_there}
 
 -- -- definitions of a module
 

@@ -1,5 +1,5 @@
 -- The object of a module can be written.
-use Rattle.std.proofs.Common.{◌≡◌, ℕ, zero, suc, ◌+◌, ◌%◌, ◌/◌, ◌==◌, ◌||◌, ◌&&◌, not, ◌<◌, ◌≤◌, ◌++◌, ◌∷◌, List, [], Bool, true, false, cond, length, map, Option, Some, None, refl, ap, sym, ◌∙◌, subst, arith, inl, inr, codes}
+use Rattle.std.proofs.Common.{◌≡◌, ℕ, zero, suc, ◌+◌, ◌%◌, ◌/◌, ◌==◌, ◌||◌, ◌&&◌, not, ◌^◌, ◌<◌, ◌≤◌, ◌++◌, ◌∷◌, List, [], Bool, true, false, cond, length, map, Option, Some, None, refl, ap, sym, ◌∙◌, subst, arith, inl, inr, codes}
 use Rattle.std.proofs.lemmas.Bool.{ltb-false}
 use Rattle.std.proofs.lemmas.Bool.Decides.{eqb_tells}
 use Rattle.std.proofs.lemmas.List.{length-map}
@@ -7,16 +7,16 @@ use Rattle.std.proofs.lemmas.List.Elements.{All-nil, All-cons, All-weaker, All-m
 use Rattle.std.proofs.lemmas.Option.{slice_get-map, slice_get_within}
 use Rattle.std.specs.Prelude.{slice_get, option_map, unwrap_or, is_some, nat_lt, find, flat_map}
 use Rattle.std.specs.Option.{option_or}
-use Rattle.std.specs.List.{All, list_any, position_from}
-use Rattle.std.specs.Fmt.{digits, digits_onto, digit_glyph}
+use Rattle.std.specs.List.{All, list_any, position_from, position_or_len}
+use Rattle.std.specs.Fmt.{digits, digits_onto, digit_glyph, decimal}
+use Rattle.std.proofs.lemmas.List.Folds.{list_any-append}
 use Rattle.ir_core.specs.Target.{Target}
 use Rattle.cranelift_module.specs.Kind.{elf_number, field_width}
 use Rattle.cranelift_module.specs.declared.error.BackendCause.TheVariants.{NulByte, UnsupportedReloc, BadReloc}
 use Rattle.cranelift_module.specs.declared.reloc.ModuleReloc.{ModuleReloc}
-use Rattle.cranelift_module.specs.declared.reloc.ModuleRelocTarget.{ModuleRelocTarget}
-use Rattle.cranelift_module.specs.declared.reloc.ModuleRelocTarget.TheVariants.{User, LibCall, KnownSymbol, FunctionOffset}
+use Rattle.ir_core.specs.declared.reloc.KnownSymbol.{KnownSymbol}
+use Rattle.ir_core.specs.declared.reloc.KnownSymbol.TheVariants.{ElfGlobalOffsetTable, CoffTlsIndex}
 use Rattle.cranelift_module.specs.Call.{Contents, bytes, zeros}
-use Rattle.cranelift_module.specs.Texts.{IsUser, user_text}
 use Rattle.cranelift_module.specs.Refusal.{Refusal, function_name, data_name, zero_byte, backend, undeclared, refuse_if, has_kind, is_outside, bytes_in, reloc_cause, bad_reloc_from, is_same_identifier}
 use Rattle.cranelift_module.specs.Definitions.{Definition, size_of}
 use Rattle.cranelift_module.specs.LinkState.{LinkState}
@@ -37,21 +37,27 @@ use Rattle.cranelift_object.specs.Settings.{Settings}
 use Rattle.cranelift_object.specs.Opened.{OpenModule}
 use Rattle.cranelift_object.specs.Kept.{IsModule, IsBody, IsDeclared, IsName, Marks}
 use Rattle.cranelift_object.specs.SectionClass.{Class, section_class, class_by_text, standard_class, standard_section, has_own_section, is_counted, are_counted}
-use Rattle.cranelift_object.specs.Placing.{Placed, sections_used, room_of, extent_of, standing_in}
+use Rattle.cranelift_object.specs.Placing.{Placed, placed, sections_used, room_of, extent_of, standing_in}
 use Rattle.cranelift_object.specs.Partial.{placed_of, partial, sections_from}
-use Rattle.cranelift_object.specs.Targets.{target_of, identifier}
-use Rattle.cranelift_object.specs.EndCause.{target_cause, is_declared, IsDeclaredTarget, first_bad_target, first_bad_reference}
-use Rattle.cranelift_object.specs.Linked.{defined_at, named_symbol, function_symbol, data_symbol, identifier_symbol, section_with, members, object_of, object_relocation, row_of, piece_of, is_unstored_class}
+use Rattle.cranelift_object.specs.Targets.{RelocationTarget, target_of, identifier, library, known, label, extras, is_same_target, is_extra}
+use Rattle.cranelift_object.specs.EndCause.{first_bad_reference}
+use Rattle.cranelift_object.specs.Extras.{extra_target, IsFaithful, AreExtras}
+use Rattle.cranelift_object.specs.Adding.{with_added}
+use Rattle.cranelift_object.specs.declared.extras.Extra.{Extra}
+use Rattle.cranelift_object.specs.declared.extras.Extra.TheVariants.{Library, Known, Label}
+use Rattle.cranelift_object.specs.Linked.{defined_at, named_symbol, function_symbol, data_symbol, identifier_symbol, extra_symbol, label_symbol, known_symbol, section_with, members, object_of, object_relocation, row_of, piece_of, is_unstored_class}
 use Rattle.cranelift_object.specs.Product.{IsWritable}
 use Rattle.cranelift_object.proofs.FirstCause.{row_at}
 use Rattle.cranelift_object.proofs.SectionLaws.{joined_length, relocations_at}
-use Rattle.cranelift_object.proofs.ClassLaws.{equal, placed_below, placed_definitions, placed_class, members_extents, used_all, All-slice_get, IsShareable, shareable}
+use Rattle.cranelift_object.proofs.ClassLaws.{equal, placed_below, placed_definitions, placed_class, members_extents, used_all, All-slice_get, IsShareable, shareable, found_place}
 use Rattle.cranelift_object.proofs.PlaceLaws.{places_within, ends_within}
-use Rattle.cranelift_object.proofs.SymbolLaws.{IsPlain}
-use Rattle.cranelift_object.proofs.ObjectLaws.{partial_whole}
+use Rattle.cranelift_object.proofs.ObjectLaws.{partial_whole, map_twice}
+use Rattle.cranelift_object.proofs.AddingLaws.{identifier_there, get_behind}
+use Rattle.cranelift_object.proofs.TargetLaws.{IsHad, IsReached, not_refused, was_true, extras_had, all_reached, each_reached}
+use Rattle.byte_core.proofs.Lists.{get_append}
 use Rattle.cranelift_object.proofs.OpenLaws.{sections_length}
-use Rattle.cranelift_object.proofs.FinishLaws.{causes_none, bad_both, declared_all}
-use Rattle.cranelift_object.proofs.DefineLaws.{created_function, created_data, created_at, symbol_place, bodies_plain, class_counted, room_elf, good_least}
+use Rattle.cranelift_object.proofs.FinishLaws.{causes_none}
+use Rattle.cranelift_object.proofs.DefineLaws.{created_function, created_data, class_counted, room_elf, good_least}
 
 -- -- names
 
@@ -85,15 +91,24 @@ digits_above_from : (b : Bool) (xs ys : List ℕ) → has_zero_byte xs ≡ false
 digits_above_from true xs ys h k = h
 digits_above_from false xs ys h k = k
 
-digits_above : (k n : ℕ) (rest : List ℕ) → has_zero_byte rest ≡ false → has_zero_byte (digits_onto k 16 false n rest) ≡ false
-digits_above zero n rest h = h
-digits_above (suc k) n rest h =
-    let more : has_zero_byte (digit_glyph false (n % 16) ∷ rest) ≡ false = rw (glyph_above (n % 16)) h in
-    digits_above_from (n / 16 == 0) (digit_glyph false (n % 16) ∷ rest) (digits_onto k 16 false (n / 16) (digit_glyph false (n % 16) ∷ rest)) more (digits_above k (n / 16) (digit_glyph false (n % 16) ∷ rest) more)
+digits_above : (k base n : ℕ) (rest : List ℕ) → has_zero_byte rest ≡ false → has_zero_byte (digits_onto k base false n rest) ≡ false
+digits_above zero base n rest h = h
+digits_above (suc k) base n rest h =
+    let more : has_zero_byte (digit_glyph false (n % base) ∷ rest) ≡ false = rw (glyph_above (n % base)) h in
+    digits_above_from (n / base == 0) (digit_glyph false (n % base) ∷ rest) (digits_onto k base false (n / base) (digit_glyph false (n % base) ∷ rest)) more (digits_above k base (n / base) (digit_glyph false (n % base) ∷ rest) more)
 
-digits_no_zero : (n : ℕ) → has_zero_byte (digits 16 false n) ≡ false
+digits_no_zero : (base n : ℕ) → has_zero_byte (digits base false n) ≡ false
 unfolding digits
-digits_no_zero n = digits_above 64 n [] refl
+digits_no_zero base n = digits_above 64 base n [] refl
+
+join_no_zero : (xs ys : List ℕ) → has_zero_byte xs ≡ false → has_zero_byte ys ≡ false → has_zero_byte (xs ++ ys) ≡ false
+join_no_zero xs ys h k = list_any-append (λ x. x == 0) xs ys ∙ (rw (h, k) refl)
+
+-- the name of a label has no zero byte
+label_no_zero : (function offset : ℕ) → has_zero_byte (codes ".L" ++ (decimal function ++ (codes "_" ++ decimal offset))) ≡ false
+label_no_zero function offset =
+    let end : has_zero_byte (codes "_" ++ decimal offset) ≡ false = digits_no_zero 10 offset in
+    join_no_zero (decimal function) (codes "_" ++ decimal offset) (digits_no_zero 10 function) end
 
 name_no_zero : (name : Option (List ℕ)) (own : List ℕ) → has_zero_byte own ≡ false → IsName name → has_zero_byte (unwrap_or name own) ≡ false
 name_no_zero None own free h = free
@@ -101,11 +116,11 @@ name_no_zero (Some name) own free h = no_zero name h
 
 -- the name of a function has no zero byte
 pub function_no_zero : (row : FunctionRow) (id : ℕ) → IsName row.name → has_zero_byte (function_name row id) ≡ false
-function_no_zero row id h = name_no_zero row.name (codes ".Lfn" ++ digits 16 false id) (digits_no_zero id) h
+function_no_zero row id h = name_no_zero row.name (codes ".Lfn" ++ digits 16 false id) (digits_no_zero 16 id) h
 
 -- nor has that of a data object
 pub data_no_zero : (row : DataRow) (id : ℕ) → IsName row.name → has_zero_byte (data_name row id) ≡ false
-data_no_zero row id h = name_no_zero row.name (codes ".Ldata" ++ digits 16 false id) (digits_no_zero id) h
+data_no_zero row id h = name_no_zero row.name (codes ".Ldata" ++ digits 16 false id) (digits_no_zero 16 id) h
 
 -- -- symbols
 
@@ -168,6 +183,38 @@ formed_at o marks object ps zero t h within at =
     let file : IsFormedSymbol object (file_symbol o.settings.file_name) = record { name = no_zero o.settings.file_name h.begun.file_name; place = tt; value = omega arith } in
     subst (IsFormedSymbol object) same file
 formed_at o marks object ps (suc i) t h within at = formed_identifier o marks object ps i t h within at
+
+-- the symbols that relocations add
+
+library_no_zero : (names : List (List ℕ)) (place : ℕ) (text : Option (List ℕ)) → All (λ (t : List ℕ). zero_byte t ≡ None) names → slice_get names place ≡ text → has_zero_byte (unwrap_or text []) ≡ false
+library_no_zero names place None all at = refl
+library_no_zero names place (Some text) all at = no_zero text (All-slice_get (λ (t : List ℕ). zero_byte t ≡ None) names place text all at)
+
+formed_known : (o : ObjectData) (symbol : KnownSymbol) → IsFormedSymbol o (known_symbol symbol)
+formed_known o ElfGlobalOffsetTable = record { name = refl; place = tt; value = omega arith }
+formed_known o CoffTlsIndex = record { name = refl; place = tt; value = omega arith }
+
+found_from : (id : FuncOrDataId) (p : Placed) (ps : List Placed) (b : Bool) → (list_any (λ (d : Definition). is_same_identifier id d.identifier) (map (λ (q : Placed). q.definition) ps) ≡ true → (q : Placed) × (defined_at ps id ≡ Some q))
+    → (b || list_any (λ (d : Definition). is_same_identifier id d.identifier) (map (λ (q : Placed). q.definition) ps)) ≡ true → (q : Placed) × (cond b (Some p) (defined_at ps id) ≡ Some q)
+found_from id p ps true more h = (p, refl)
+found_from id p ps false more h = more h
+
+-- a definition among some has its place
+defined_found : (id : FuncOrDataId) (ps : List Placed) → list_any (λ (d : Definition). is_same_identifier id d.identifier) (map (λ (p : Placed). p.definition) ps) ≡ true → (q : Placed) × (defined_at ps id ≡ Some q)
+defined_found id [] h = absurd (cc)
+defined_found id (p ∷ ps) h = found_from id p ps (is_same_identifier id p.definition.identifier) (defined_found id ps) h
+
+formed_label : (o : ObjectData) (ps : List Placed) (function offset : ℕ) (at : Option Placed) (p : Placed) → at ≡ Some p → IsWithin o p → offset < 2 ^ 32 → IsFormedSymbol o (label_symbol function offset at)
+formed_label o ps function offset at p e within small = rw e (record { name = label_no_zero function offset; place = within.0; value = omega (arith, within.1, small) })
+
+formed_extra : (o : ObjectData) (settings : Settings) (s : LinkState) (ps : List Placed) (e : Extra) → All (λ (text : List ℕ). zero_byte text ≡ None) settings.library_names → All (IsWithin o) ps → map (λ (p : Placed). p.definition) ps ≡ s.definitions
+    → IsFaithful settings e → IsHad s (extra_target settings e) → IsFormedSymbol o (extra_symbol ps (extra_target settings e))
+formed_extra o settings s ps (Library place) names within whole faithful had = record { name = library_no_zero settings.library_names place (slice_get settings.library_names place) names refl; place = tt; value = omega arith }
+formed_extra o settings s ps (Known symbol) names within whole faithful had = formed_known o symbol
+formed_extra o settings s ps (Label function offset) names within whole faithful had =
+    let there = ap (list_any (λ (d : Definition). is_same_identifier (Func function) d.identifier)) whole ∙ had.1 in
+    let found = defined_found (Func function) ps there in
+    formed_label o ps function offset (defined_at ps (Func function)) found.0 found.1 (find_holds (IsWithin o) (λ (q : Placed). is_same_identifier (Func function) q.definition.identifier) found.0 ps within found.1) faithful
 
 -- -- sections
 
@@ -233,9 +280,35 @@ placed_within o marks h =
     let sections = All-weaker (λ (p : Placed). p.section < length used) (λ (p : Placed). p.section < length (sections_from o.settings o.state 0 used ps)) (λ p l. omega (arith, l, count)) ps (placed_below o.settings o.state ds) in
     both_within (partial o.settings o.state ds) ps sections (places_within o.settings o.state ds least)
 
-formed_symbols : (o : OpenModule) (marks : Marks) → IsModule o marks → (k : ℕ) (t : Symbol) → slice_get (partial o.settings o.state o.state.definitions).symbols k ≡ Some t → IsFormedSymbol (partial o.settings o.state o.state.definitions) t
-unfolding partial
-formed_symbols o marks h k t at = formed_at o marks (partial o.settings o.state o.state.definitions) (placed_of o.settings o.state o.state.definitions) k t h (placed_within o marks h) at
+some_same : {A : Type 0} (x y : A) → Some x ≡ Some y → x ≡ y
+some_same x y h = cc
+
+-- the object with the symbols of what relocations add
+abbrev whole : OpenModule → List Extra → ObjectData
+whole o es = with_added o.settings o.state (partial o.settings o.state o.state.definitions) es
+
+formed_added : (o : OpenModule) (marks : Marks) (es : List Extra) (j : ℕ) (t : Symbol) → IsModule o marks → AreExtras o.settings o.state es → first_bad_reference o.state ≡ None
+    → slice_get (map (λ (e : Extra). extra_symbol (placed_of o.settings o.state o.state.definitions) (extra_target o.settings e)) es) j ≡ Some t → IsFormedSymbol (whole o es) t
+unfolding partial placed
+formed_added o marks es j t h are none at =
+    let ps : List Placed = placed_of o.settings o.state o.state.definitions in
+    let f : Extra → Symbol = λ e. extra_symbol ps (extra_target o.settings e) in
+    let inside = slice_get_within (map f es) j t at in
+    let long = length-map es f in
+    let e = row_at es j (omega (arith, long, inside)) in
+    let there : Some (f e.0) ≡ Some t = sym (slice_get-map f es j ∙ ap (option_map f) e.1) ∙ at in
+    let same : f e.0 ≡ t = some_same (f e.0) t there in
+    let faithful = All-slice_get (IsFaithful o.settings) es j e.0 are.faithful e.1 in
+    let had = All-slice_get (λ (x : Extra). IsHad o.state (extra_target o.settings x)) es j e.0 (extras_had o.settings o.state es are none) e.1 in
+    subst (IsFormedSymbol (whole o es)) same (formed_extra (whole o es) o.settings o.state ps e.0 h.begun.library_names (placed_within o marks h) (placed_definitions o.settings o.state o.state.definitions) faithful had)
+
+formed_symbols : (o : OpenModule) (marks : Marks) (es : List Extra) → IsModule o marks → AreExtras o.settings o.state es → first_bad_reference o.state ≡ None → (k : ℕ) (t : Symbol) → slice_get (whole o es).symbols k ≡ Some t → IsFormedSymbol (whole o es) t
+unfolding partial placed
+formed_symbols o marks es h are none k t at =
+    let ps : List Placed = placed_of o.settings o.state o.state.definitions in
+    let front : List Symbol = file_symbol o.settings.file_name ∷ map (identifier_symbol o.state ps) o.state.created in
+    elim (get_append front (map (λ (e : Extra). extra_symbol ps (extra_target o.settings e)) es) k t at)
+    [ inl first ↦ formed_at o marks (whole o es) ps k t h (placed_within o marks h) first | inr behind ↦ formed_added o marks es behind.0 t h are none behind.2 ]
 
 -- a section of the object is that of the class of a definition
 section_named : (o : OpenModule) (marks : Marks) → IsModule o marks → (k : ℕ) (x : SectionData) → slice_get (partial o.settings o.state o.state.definitions).sections k ≡ Some x
@@ -257,14 +330,6 @@ formed_names o marks h k x at = let named = section_named o marks h k x at in ap
 -- a relocation of a kind that the target has, with its field within so many bytes
 abbrev IsGood : Target → Option ℕ → ModuleReloc → Type 0
 IsGood target size r = (has_kind target r.kind ≡ true) × (is_outside size r ≡ false)
-
-not_refused : (test : Bool) (r : Refusal) → refuse_if test r ≡ None → test ≡ false
-not_refused true r h = absurd (cc)
-not_refused false r h = refl
-
-was_true : (b : Bool) → not b ≡ false → b ≡ true
-was_true true h = refl
-was_true false h = absurd (cc)
 
 good_one : (target : Target) (size : Option ℕ) (before : List ModuleReloc) (r : ModuleReloc) → reloc_cause target size before r ≡ None → IsGood target size r
 good_one target size before r h =
@@ -307,47 +372,54 @@ identifier_no_file : (s : LinkState) (ps : List Placed) (id : FuncOrDataId) → 
 identifier_no_file s ps (Func k) = function_no_file ps k (slice_get s.functions k)
 identifier_no_file s ps (Data k) = data_no_file ps k (slice_get s.objects k)
 
-some_within : {A : Type 0} (xs : List A) (k : ℕ) (o : Option A) → slice_get xs k ≡ o → is_some o ≡ true → k < length xs
-some_within xs k None e h = absurd (cc)
-some_within xs k (Some x) e h = slice_get_within xs k x e
+extra_no_file : (ps : List Placed) (t : RelocationTarget) → is_file (extra_symbol ps t).kind ≡ false
+extra_no_file ps (identifier id) = refl
+extra_no_file ps (library text) = refl
+extra_no_file ps (known ElfGlobalOffsetTable) = refl
+extra_no_file ps (known CoffTlsIndex) = refl
+extra_no_file ps (label function offset) = refl
 
--- a declared target is an identifier with a symbol
-user_declared : (settings : Settings) (s : LinkState) (namespace index : ℕ) (b c : Bool) → (namespace == 0) ≡ b → (namespace == 1) ≡ c → cond b (is_some (slice_get s.functions index)) (c && is_some (slice_get s.objects index)) ≡ true
-    → (id : FuncOrDataId) × (target_of settings s (User namespace index) ≡ identifier id) × IsDeclared (length s.functions) (length s.objects) id
-user_declared settings s namespace index true c e f h = (Func index, ap (λ (zero : Bool). identifier (cond zero (Func index) (Data index))) e, some_within s.functions index (slice_get s.functions index) refl h)
-user_declared settings s namespace index false true e f h = (Data index, ap (λ (zero : Bool). identifier (cond zero (Func index) (Data index))) e, some_within s.objects index (slice_get s.objects index) refl h)
-user_declared settings s namespace index false false e f h = absurd (cc)
-
-declared_target : (settings : Settings) (s : LinkState) (t : ModuleRelocTarget) → IsUser t → target_cause s t ≡ None → (id : FuncOrDataId) × (target_of settings s t ≡ identifier id) × IsDeclared (length s.functions) (length s.objects) id
-declared_target settings s (User namespace index) h none =
-    user_declared settings s namespace index (namespace == 0) (namespace == 1) refl refl (was_true (is_declared s namespace index) (not_refused (not (is_declared s namespace index)) (undeclared (user_text namespace index)) none))
-declared_target settings s (LibCall call) h none = absurd h
-declared_target settings s (KnownSymbol symbol) h none = absurd h
-declared_target settings s (FunctionOffset function offset) h none = absurd h
-
--- the symbol of a declared target is one of the object, and no file
-formed_target : (o : OpenModule) (marks : Marks) (r : ModuleReloc) (offset : ℕ) → IsModule o marks → IsDeclaredTarget o.state r
-    → (t : Symbol) × (slice_get (partial o.settings o.state o.state.definitions).symbols (object_relocation o.settings o.state offset r).symbol ≡ Some t) × (is_file t.kind ≡ false)
-unfolding partial
-formed_target o marks r offset h declared =
+-- the symbol that is added for a target
+added_there : (o : OpenModule) (es : List Extra) (t : RelocationTarget) (n : ℕ) → list_any (is_same_target t) (map (extra_target o.settings) es) ≡ true → n ≡ 1 + length o.state.created + position_or_len (is_same_target t) (map (extra_target o.settings) es)
+    → (x : Symbol) × (slice_get (whole o es).symbols n ≡ Some x) × (is_file x.kind ≡ false)
+unfolding partial placed
+added_there o es t n among row =
     let ps : List Placed = placed_of o.settings o.state o.state.definitions in
-    let target = declared_target o.settings o.state r.name declared.0 declared.1 in
-    let created = created_at o marks target.0 h target.2 in
-    let number : row_of o.settings o.state (target_of o.settings o.state r.name) ≡ suc created.0 = ap (row_of o.settings o.state) target.1 ∙ symbol_place o marks created.0 target.0 h created.1 in
-    let there = slice_get-map (identifier_symbol o.state ps) o.state.created created.0 ∙ ap (option_map (identifier_symbol o.state ps)) created.1 in
-    (identifier_symbol o.state ps target.0, ap (slice_get (file_symbol o.settings.file_name ∷ map (identifier_symbol o.state ps) o.state.created)) number ∙ there, identifier_no_file o.state ps target.0)
+    let front : List Symbol = file_symbol o.settings.file_name ∷ map (identifier_symbol o.state ps) o.state.created in
+    let p : ℕ = position_or_len (is_same_target t) (map (extra_target o.settings) es) in
+    let found = found_place (is_same_target t) (map (extra_target o.settings) es) among in
+    let long = length-map o.state.created (identifier_symbol o.state ps) in
+    let behind = get_behind front (map (λ (e : Extra). extra_symbol ps (extra_target o.settings e)) es) n p (omega (arith, row, long)) in
+    let there = ap (λ (xs : List Symbol). slice_get xs p) (sym (map_twice (extra_symbol ps) (extra_target o.settings) es)) ∙ slice_get-map (extra_symbol ps) (map (extra_target o.settings) es) p ∙ ap (option_map (extra_symbol ps)) found.1 in
+    (extra_symbol ps found.0, behind ∙ there, extra_no_file ps found.0)
+
+target_row : (o : OpenModule) (es : List Extra) (t : RelocationTarget) → AreExtras o.settings o.state es → is_extra t ≡ true → row_of o.settings o.state t ≡ 1 + length o.state.created + position_or_len (is_same_target t) (map (extra_target o.settings) es)
+unfolding extras
+target_row o es (identifier id) are h = absurd (cc)
+target_row o es (library text) are h = ap (λ (ts : List RelocationTarget). 1 + length o.state.created + position_or_len (is_same_target (library text)) ts) (sym are.found)
+target_row o es (known symbol) are h = ap (λ (ts : List RelocationTarget). 1 + length o.state.created + position_or_len (is_same_target (known symbol)) ts) (sym are.found)
+target_row o es (label function offset) are h = ap (λ (ts : List RelocationTarget). 1 + length o.state.created + position_or_len (is_same_target (label function offset)) ts) (sym are.found)
+
+-- the symbol of a target that is reached is one of the object, and no file
+formed_target : (o : OpenModule) (marks : Marks) (es : List Extra) (t : RelocationTarget) → IsModule o marks → AreExtras o.settings o.state es → IsReached o.settings o.state es t
+    → (x : Symbol) × (slice_get (whole o es).symbols (row_of o.settings o.state t) ≡ Some x) × (is_file x.kind ≡ false)
+formed_target o marks es (identifier id) h are reached =
+    (identifier_symbol o.state (placed o.settings o.state) id, identifier_there o marks es id h reached.0, identifier_no_file o.state (placed o.settings o.state) id)
+formed_target o marks es (library text) h are reached = added_there o es (library text) _ (reached.1 refl) (target_row o es (library text) are refl)
+formed_target o marks es (known symbol) h are reached = added_there o es (known symbol) _ (reached.1 refl) (target_row o es (known symbol) are refl)
+formed_target o marks es (label function offset) h are reached = added_there o es (label function offset) _ (reached.1 refl) (target_row o es (label function offset) are refl)
 
 -- a relocation of a definition that ends within its section
-formed_one_relocation : (o : OpenModule) (marks : Marks) (x : SectionData) (c : Class) (p : Placed) (r : ModuleReloc) → IsModule o marks → IsBody o.state.target (length o.state.functions) (length o.state.objects) p.definition → is_unstored_class o.state c ≡ is_counted p.definition
-    → (is_unstored_class o.state c ≡ false → p.offset + room_of o.state p.definition ≤ length x.contents) → IsGood o.state.target (bytes_in p.definition.contents) r → IsDeclaredTarget o.state r
-    → IsFormedRelocation (partial o.settings o.state o.state.definitions) x (object_relocation o.settings o.state p.offset r)
+formed_one_relocation : (o : OpenModule) (marks : Marks) (es : List Extra) (x : SectionData) (c : Class) (p : Placed) (r : ModuleReloc) → IsModule o marks → AreExtras o.settings o.state es → IsBody o.state.target (length o.state.functions) (length o.state.objects) p.definition → is_unstored_class o.state c ≡ is_counted p.definition
+    → (is_unstored_class o.state c ≡ false → p.offset + room_of o.state p.definition ≤ length x.contents) → IsGood o.state.target (bytes_in p.definition.contents) r → IsReached o.settings o.state es (target_of o.settings o.state r.name)
+    → IsFormedRelocation (whole o es) x (object_relocation o.settings o.state p.offset r)
 unfolding partial
-formed_one_relocation o marks x c p r h body stored within good declared =
+formed_one_relocation o marks es x c p r h are body stored within good reached =
     let field = field_bytes p.definition.contents p.definition.section r good.1 in
     let room = room_elf o.state.target.triple.binary_format (size_of p.definition.contents) h.begun.format in
     let inside = within (stored ∙ field.0) in
     let number = some_is (elf_number o.state.target.triple.architecture r.kind) good.0 in
-    record { field = (r.kind, number, omega (arith, field.1, room, inside)); symbol = formed_target o marks r p.offset h declared }
+    record { field = (r.kind, number, omega (arith, field.1, room, inside)); symbol = formed_target o marks es (target_of o.settings o.state r.name) h are reached }
 
 All-flat : {A B : Type 0} (P : B → Type 0) (f : A → List B) (xs : List A) → All (λ x. All P (f x)) xs → All P (flat_map f xs)
 All-flat P f [] all = All-nil P
@@ -373,42 +445,36 @@ All-members P (p ∷ ps) k all = member_from P p ps k (p.section == k) refl (All
   member_from P p ps k false e here all = all
 
 -- what is known of a placed definition
-pub record IsKnown (o : OpenModule) (k : ℕ) (p : Placed) : Type 0 where
+pub record IsKnown (o : OpenModule) (es : List Extra) (k : ℕ) (p : Placed) : Type 0 where
   pub body : IsBody o.state.target (length o.state.functions) (length o.state.objects) p.definition
-  pub targets : All (IsDeclaredTarget o.state) p.definition.relocs
+  pub targets : All (λ (r : ModuleReloc). IsReached o.settings o.state es (target_of o.settings o.state r.name)) p.definition.relocs
   pub class : slice_get (sections_used (map (section_class o.settings o.state) o.state.definitions)) p.section ≡ Some (section_class o.settings o.state p.definition)
   pub ends : p.section ≡ k → p.offset + room_of o.state p.definition ≤ end_of (map (extent_of o.state) (standing_in o.settings o.state k o.state.definitions))
 
-known_all : (o : OpenModule) (k : ℕ) (ps : List Placed) → All (λ (p : Placed). IsBody o.state.target (length o.state.functions) (length o.state.objects) p.definition × All (IsDeclaredTarget o.state) p.definition.relocs) ps
+known_all : (o : OpenModule) (es : List Extra) (k : ℕ) (ps : List Placed) → All (λ (p : Placed). IsBody o.state.target (length o.state.functions) (length o.state.objects) p.definition × All (λ (r : ModuleReloc). IsReached o.settings o.state es (target_of o.settings o.state r.name)) p.definition.relocs) ps
     → All (λ (p : Placed). slice_get (sections_used (map (section_class o.settings o.state) o.state.definitions)) p.section ≡ Some (section_class o.settings o.state p.definition)) ps
-    → All (λ (p : Placed). p.section ≡ k → p.offset + room_of o.state p.definition ≤ end_of (map (extent_of o.state) (standing_in o.settings o.state k o.state.definitions))) ps → All (IsKnown o k) ps
-known_all o k [] a b c = All-nil (IsKnown o k)
-known_all o k (p ∷ ps) a b c =
-    let A : Placed → Type 0 = λ p. IsBody o.state.target (length o.state.functions) (length o.state.objects) p.definition × All (IsDeclaredTarget o.state) p.definition.relocs in
+    → All (λ (p : Placed). p.section ≡ k → p.offset + room_of o.state p.definition ≤ end_of (map (extent_of o.state) (standing_in o.settings o.state k o.state.definitions))) ps → All (IsKnown o es k) ps
+known_all o es k [] a b c = All-nil (IsKnown o es k)
+known_all o es k (p ∷ ps) a b c =
+    let A : Placed → Type 0 = λ p. IsBody o.state.target (length o.state.functions) (length o.state.objects) p.definition × All (λ (r : ModuleReloc). IsReached o.settings o.state es (target_of o.settings o.state r.name)) p.definition.relocs in
     let B : Placed → Type 0 = λ p. slice_get (sections_used (map (section_class o.settings o.state) o.state.definitions)) p.section ≡ Some (section_class o.settings o.state p.definition) in
     let C : Placed → Type 0 = λ p. p.section ≡ k → p.offset + room_of o.state p.definition ≤ end_of (map (extent_of o.state) (standing_in o.settings o.state k o.state.definitions)) in
     let here = All-head A p ps a in
-    All-cons (IsKnown o k) p ps (record { body = here.0; targets = here.1; class = All-head B p ps b; ends = All-head C p ps c }) (known_all o k ps (All-tail A p ps a) (All-tail B p ps b) (All-tail C p ps c))
-
-declared_each : (s : LinkState) (ds : List Definition) → All IsPlain ds → first_bad_target s (flat_map (λ (d : Definition). d.relocs) ds) ≡ None → All (λ (d : Definition). All (IsDeclaredTarget s) d.relocs) ds
-declared_each s [] all h = All-nil (λ (d : Definition). All (IsDeclaredTarget s) d.relocs)
-declared_each s (d ∷ ds) all h =
-    let parts = causes_none (first_bad_target s d.relocs) (first_bad_target s (flat_map (λ (x : Definition). x.relocs) ds)) (sym (bad_both s d.relocs (flat_map (λ (x : Definition). x.relocs) ds)) ∙ h) in
-    All-cons (λ (x : Definition). All (IsDeclaredTarget s) x.relocs) d ds (declared_all s d.relocs (All-head IsPlain d ds all) parts.0) (declared_each s ds (All-tail IsPlain d ds all) parts.1)
+    All-cons (IsKnown o es k) p ps (record { body = here.0; targets = here.1; class = All-head B p ps b; ends = All-head C p ps c }) (known_all o es k ps (All-tail A p ps a) (All-tail B p ps b) (All-tail C p ps c))
 
 before_all : (o : OpenModule) (marks : Marks) → IsModule o marks → All (λ (x : Definition). IsShareable (section_class o.settings o.state x)) o.state.definitions
 before_all o marks h =
     All-weaker (IsBody o.state.target (length o.state.functions) (length o.state.objects)) (λ (x : Definition). IsShareable (section_class o.settings o.state x)) (λ x body. shareable o.settings o.state x body.plain) o.state.definitions h.bodies
 
-all_known : (o : OpenModule) (marks : Marks) (k : ℕ) → IsModule o marks → first_bad_reference o.state ≡ None → All (IsKnown o k) (placed_of o.settings o.state o.state.definitions)
-all_known o marks k h none =
+all_known : (o : OpenModule) (marks : Marks) (es : List Extra) (k : ℕ) → IsModule o marks → AreExtras o.settings o.state es → first_bad_reference o.state ≡ None → All (IsKnown o es k) (placed_of o.settings o.state o.state.definitions)
+all_known o marks es k h are none =
     let ds : List Definition = o.state.definitions in
     let bodies : Definition → Type 0 = IsBody o.state.target (length o.state.functions) (length o.state.objects) in
-    let targets : Definition → Type 0 = λ d. All (IsDeclaredTarget o.state) d.relocs in
+    let targets : Definition → Type 0 = λ d. All (λ (r : ModuleReloc). IsReached o.settings o.state es (target_of o.settings o.state r.name)) d.relocs in
     let both : Definition → Type 0 = λ d. bodies d × targets d in
-    let each = All-both bodies targets ds h.bodies (declared_each o.state ds (bodies_plain o marks h) none) in
+    let each = All-both bodies targets ds h.bodies (each_reached o.settings o.state (IsReached o.settings o.state es) ds (all_reached o.settings o.state es are none)) in
     let here = All-unmap both (λ (p : Placed). p.definition) (placed_of o.settings o.state ds) (subst (All both) (sym (placed_definitions o.settings o.state ds)) each) in
-    known_all o k (placed_of o.settings o.state ds) here (placed_class o.settings o.state ds (before_all o marks h)) (ends_within o.settings o.state k ds (all_least o marks h))
+    known_all o es k (placed_of o.settings o.state ds) here (placed_class o.settings o.state ds (before_all o marks h)) (ends_within o.settings o.state k ds (all_least o marks h))
 
 -- as many bytes are stored as the definitions of a section take
 section_long : (o : OpenModule) (k : ℕ) (c : Class) (x : SectionData) → is_unstored_class o.state c ≡ false → x ≡ section_with o.settings o.state c (members (placed_of o.settings o.state o.state.definitions) k)
@@ -424,40 +490,40 @@ unfolding partial
 section_class_at o k x at = class_at_of o.settings o.state (placed_of o.settings o.state o.state.definitions) (sections_used (map (section_class o.settings o.state) o.state.definitions)) 0 k k x (omega arith) at
 
 -- the relocations of a section are formed
-section_relocations : (o : OpenModule) (marks : Marks) → IsModule o marks → first_bad_reference o.state ≡ None → (k : ℕ) (c : Class) (x : SectionData) → slice_get (sections_used (map (section_class o.settings o.state) o.state.definitions)) k ≡ Some c
-    → x ≡ section_with o.settings o.state c (members (placed_of o.settings o.state o.state.definitions) k) → All (IsFormedRelocation (partial o.settings o.state o.state.definitions) x) x.relocations
-section_relocations o marks h none k c x there is =
+section_relocations : (o : OpenModule) (marks : Marks) (es : List Extra) → IsModule o marks → AreExtras o.settings o.state es → first_bad_reference o.state ≡ None → (k : ℕ) (c : Class) (x : SectionData) → slice_get (sections_used (map (section_class o.settings o.state) o.state.definitions)) k ≡ Some c
+    → x ≡ section_with o.settings o.state c (members (placed_of o.settings o.state o.state.definitions) k) → All (IsFormedRelocation (whole o es) x) x.relocations
+section_relocations o marks es h are none k c x there is =
     let ps : List Placed = placed_of o.settings o.state o.state.definitions in
-    let P : Relocation → Type 0 = IsFormedRelocation (partial o.settings o.state o.state.definitions) x in
+    let P : Relocation → Type 0 = IsFormedRelocation (whole o es) x in
     let Q : Placed → Type 0 = λ p. All P (relocations_at o.settings o.state p) in
-    let known = All-weaker (IsKnown o k) (λ (p : Placed). p.section ≡ k → Q p) (λ p w e. placed_relocations o marks k c x p h there is w e) ps (all_known o marks k h none) in
+    let known = All-weaker (IsKnown o es k) (λ (p : Placed). p.section ≡ k → Q p) (λ p w e. placed_relocations o marks es k c x p h are there is w e) ps (all_known o marks es k h are none) in
     subst (All P) (sym (ap (λ (y : SectionData). y.relocations) is)) (All-flat P (relocations_at o.settings o.state) (members ps k) (All-members Q ps k known)) where
-      placed_relocations : (o : OpenModule) (marks : Marks) (k : ℕ) (c : Class) (x : SectionData) (p : Placed) → IsModule o marks → slice_get (sections_used (map (section_class o.settings o.state) o.state.definitions)) k ≡ Some c
-          → x ≡ section_with o.settings o.state c (members (placed_of o.settings o.state o.state.definitions) k) → IsKnown o k p → p.section ≡ k → All (IsFormedRelocation (partial o.settings o.state o.state.definitions) x) (relocations_at o.settings o.state p)
-      placed_relocations o marks k c x p h there is w e =
+      placed_relocations : (o : OpenModule) (marks : Marks) (es : List Extra) (k : ℕ) (c : Class) (x : SectionData) (p : Placed) → IsModule o marks → AreExtras o.settings o.state es → slice_get (sections_used (map (section_class o.settings o.state) o.state.definitions)) k ≡ Some c
+          → x ≡ section_with o.settings o.state c (members (placed_of o.settings o.state o.state.definitions) k) → IsKnown o es k p → p.section ≡ k → All (IsFormedRelocation (whole o es) x) (relocations_at o.settings o.state p)
+      placed_relocations o marks es k c x p h are there is w e =
           let same : section_class o.settings o.state p.definition ≡ c = (let one : Some (section_class o.settings o.state p.definition) ≡ Some c = sym w.class ∙ ap (slice_get (sections_used (map (section_class o.settings o.state) o.state.definitions))) e ∙ there in cc) in
           let stored = ap (is_unstored_class o.state) (sym same) ∙ class_counted o.settings o.state p.definition h.begun.format w.body.plain in
-          let R : Relocation → Type 0 = IsFormedRelocation (partial o.settings o.state o.state.definitions) x in
-          let both = All-both (IsGood o.state.target (bytes_in p.definition.contents)) (IsDeclaredTarget o.state) p.definition.relocs (good_relocs o.state.target (bytes_in p.definition.contents) [] p.definition.relocs w.body.judged) w.targets in
+          let R : Relocation → Type 0 = IsFormedRelocation (whole o es) x in
+          let both = All-both (IsGood o.state.target (bytes_in p.definition.contents)) (λ (r : ModuleReloc). IsReached o.settings o.state es (target_of o.settings o.state r.name)) p.definition.relocs (good_relocs o.state.target (bytes_in p.definition.contents) [] p.definition.relocs w.body.judged) w.targets in
           let ends = w.ends e in
           let long : is_unstored_class o.state c ≡ false → p.offset + room_of o.state p.definition ≤ length x.contents = λ f. (let size = section_long o k c x f is in omega (arith, ends, size)) in
           All-map R (object_relocation o.settings o.state p.offset) p.definition.relocs
-          (All-weaker (λ r. IsGood o.state.target (bytes_in p.definition.contents) r × IsDeclaredTarget o.state r) (λ r. R (object_relocation o.settings o.state p.offset r)) (λ r g. formed_one_relocation o marks x c p r h w.body stored long g.0 g.1) p.definition.relocs both)
+          (All-weaker (λ r. IsGood o.state.target (bytes_in p.definition.contents) r × IsReached o.settings o.state es (target_of o.settings o.state r.name)) (λ r. R (object_relocation o.settings o.state p.offset r)) (λ r g. formed_one_relocation o marks es x c p r h are w.body stored long g.0 g.1) p.definition.relocs both)
 
-formed_relocations : (o : OpenModule) (marks : Marks) → IsModule o marks → first_bad_reference o.state ≡ None → (k : ℕ) (x : SectionData) → slice_get (partial o.settings o.state o.state.definitions).sections k ≡ Some x → (m : ℕ) (r : Relocation) → slice_get x.relocations m ≡ Some r
-    → IsFormedRelocation (partial o.settings o.state o.state.definitions) x r
-formed_relocations o marks h none k x at m r found =
+formed_relocations : (o : OpenModule) (marks : Marks) (es : List Extra) → IsModule o marks → AreExtras o.settings o.state es → first_bad_reference o.state ≡ None → (k : ℕ) (x : SectionData) → slice_get (whole o es).sections k ≡ Some x → (m : ℕ) (r : Relocation) → slice_get x.relocations m ≡ Some r
+    → IsFormedRelocation (whole o es) x r
+formed_relocations o marks es h are none k x at m r found =
     let class = section_class_at o k x at in
-    All-slice_get (IsFormedRelocation (partial o.settings o.state o.state.definitions) x) x.relocations m r (section_relocations o marks h none k class.0 x class.1 class.2) found
+    All-slice_get (IsFormedRelocation (whole o es) x) x.relocations m r (section_relocations o marks es h are none k class.0 x class.1 class.2) found
 
--- the object of a module whose relocations go to what is declared can be written
-pub formed : (o : OpenModule) (marks : Marks) → IsModule o marks → first_bad_reference o.state ≡ None → IsFormedElf (object_of o.settings o.state)
-formed o marks h none =
-    subst IsFormedElf (partial_whole o.settings o.state (bodies_plain o marks h)) (record { symbols = formed_symbols o marks h; names = formed_names o marks h; relocations = formed_relocations o marks h none })
+-- the object of a module whose relocations go to what can be had can be written
+pub formed : (o : OpenModule) (marks : Marks) (es : List Extra) → IsModule o marks → AreExtras o.settings o.state es → first_bad_reference o.state ≡ None → IsFormedElf (object_of o.settings o.state)
+formed o marks es h are none =
+    subst IsFormedElf (partial_whole o.settings o.state es are) (record { symbols = formed_symbols o marks es h are none; names = formed_names o marks h; relocations = formed_relocations o marks es h are none })
 
 object_format : (settings : Settings) (s : LinkState) → (object_of settings s).format ≡ s.target.triple.binary_format
 unfolding object_of
 object_format settings s = refl
 
-pub writable : (o : OpenModule) (marks : Marks) (object : ObjectData) → IsModule o marks → first_bad_reference o.state ≡ None → object ≡ object_of o.settings o.state → IsWritable object
-writable o marks object h none e = rw e (record { format = object_format o.settings o.state ∙ h.begun.format; formed = formed o marks h none })
+pub writable : (o : OpenModule) (marks : Marks) (es : List Extra) (object : ObjectData) → IsModule o marks → AreExtras o.settings o.state es → first_bad_reference o.state ≡ None → object ≡ object_of o.settings o.state → IsWritable object
+writable o marks es object h are none e = rw e (record { format = object_format o.settings o.state ∙ h.begun.format; formed = formed o marks es h are none })

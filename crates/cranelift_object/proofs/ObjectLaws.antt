@@ -41,7 +41,7 @@ unfolding sections_of
 sections_whole settings s ds =
     ap (λ (classes : List Class). sections_from settings s 0 (sections_used classes) (placed_of settings s ds)) (classes_placed settings s (placed_of settings s ds) ∙ ap (map (section_class settings s)) (placed_definitions settings s ds))
 
-map_twice : {A B C : Type 0} (f : B → C) (g : A → B) (xs : List A) → map f (map g xs) ≡ map (λ x. f (g x)) xs
+pub map_twice : {A B C : Type 0} (f : B → C) (g : A → B) (xs : List A) → map f (map g xs) ≡ map (λ x. f (g x)) xs
 map_twice f g [] = refl
 map_twice f g (x ∷ xs) = rw (map_twice f g xs) refl
 

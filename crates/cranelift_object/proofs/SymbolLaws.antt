@@ -1,30 +1,21 @@
 -- One more definition among the symbols of a state.
-use Rattle.std.proofs.Common.{◌≡◌, ℕ, zero, suc, ◌++◌, ◌∷◌, List, [], true, false, cond, filter, ◌<◌, length, map, Option, Some, None, refl, ap, sym, ◌∙◌, arith, eq-eqb, ◌≢◌}
-use Rattle.std.proofs.lemmas.List.{append-nil}
+use Rattle.std.proofs.Common.{◌≡◌, ℕ, zero, suc, ◌++◌, ◌∷◌, List, [], true, false, cond, ◌<◌, length, map, Option, Some, None, refl, ap, sym, ◌∙◌, arith, eq-eqb, ◌≢◌}
 use Rattle.std.proofs.lemmas.List.Folds.{find-append}
-use Rattle.std.proofs.lemmas.List.Elements.{All-head, All-tail, filter-append}
 use Rattle.std.specs.Prelude.{slice_get}
 use Rattle.std.specs.Option.{option_or}
-use Rattle.std.specs.List.{All}
-use Rattle.ir_core.specs.Moments.{moments}
 use Rattle.object_core.specs.declared.kinds.SymbolKind.TheVariants as kind
 use Rattle.object_core.specs.declared.symbol.Symbol.{Symbol}
-use Rattle.object_core.specs.Appending.{changed_at, defined_symbol, file_symbol}
+use Rattle.object_core.specs.Appending.{changed_at, defined_symbol}
 use Rattle.cranelift_module.specs.declared.identifiers.FuncOrDataId.{FuncOrDataId}
 use Rattle.cranelift_module.specs.declared.identifiers.FuncOrDataId.TheVariants.{Func, Data}
 use Rattle.cranelift_module.specs.Rows.{FunctionRow, DataRow}
-use Rattle.cranelift_module.specs.Definitions.{Definition, size_of}
+use Rattle.cranelift_module.specs.Definitions.{size_of}
 use Rattle.cranelift_module.specs.LinkState.{LinkState}
 use Rattle.cranelift_module.specs.Refusal.{is_same_identifier, function_name, data_name}
-use Rattle.cranelift_module.specs.declared.reloc.ModuleReloc.{ModuleReloc}
-use Rattle.cranelift_module.specs.declared.reloc.ModuleRelocTarget.{ModuleRelocTarget}
-use Rattle.cranelift_module.specs.declared.reloc.ModuleRelocTarget.TheVariants.{User, LibCall, KnownSymbol, FunctionOffset}
 use Rattle.cranelift_object.specs.Kept.{IsDeclared}
 use Rattle.cranelift_object.proofs.FirstCause.{row_at}
-use Rattle.cranelift_object.specs.Settings.{Settings}
 use Rattle.cranelift_object.specs.Placing.{Placed}
-use Rattle.cranelift_object.specs.Targets.{extras, targets, target_of, is_extra}
-use Rattle.cranelift_object.specs.Linked.{defined_at, identifier_symbol, function_symbol, data_symbol, symbols_of, named_symbol}
+use Rattle.cranelift_object.specs.Linked.{defined_at, identifier_symbol, function_symbol, data_symbol, named_symbol}
 
 -- -- where an identifier is defined
 

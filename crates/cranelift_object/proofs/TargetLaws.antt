@@ -1,11 +1,11 @@
 -- The targets of a module in which no relocation goes to what can't be had.
-use Rattle.std.proofs.Common.{◌≡◌, ℕ, zero, suc, ◌+◌, ◌<◌, ◌≤◌, ◌==◌, ◌&&◌, ◌++◌, ◌∷◌, List, [], Bool, true, false, not, cond, length, map, filter, take, Option, Some, None, refl, ap, sym, ◌∙◌, subst, arith}
+use Rattle.std.proofs.Common.{◌≡◌, ℕ, ◌<◌, ◌==◌, ◌&&◌, ◌||◌, ◌++◌, ◌∷◌, List, [], Bool, true, false, not, cond, length, map, filter, Option, Some, None, refl, ap, sym, ◌∙◌, subst}
 use Rattle.std.specs.Prelude.{slice_get, option_map, is_some, flat_map}
 use Rattle.std.specs.Option.{option_or}
 use Rattle.std.specs.List.{All, list_any, position_from}
 use Rattle.std.proofs.lemmas.Option.{slice_get_within}
 use Rattle.std.proofs.lemmas.List.{append-nil}
-use Rattle.std.proofs.lemmas.List.Elements.{All-nil, All-cons, All-head, All-tail, All-append, All-weaker, All-map, filter-append}
+use Rattle.std.proofs.lemmas.List.Elements.{All-nil, All-cons, All-head, All-tail, All-append, All-weaker}
 use Rattle.ir_core.specs.Moments.{once_each}
 use Rattle.ir_core.proofs.MomentLaws.{by_end, once_each-end}
 use Rattle.cranelift_module.proofs.Places.{position-below}
@@ -14,18 +14,19 @@ use Rattle.cranelift_module.specs.declared.identifiers.FuncOrDataId.TheVariants.
 use Rattle.cranelift_module.specs.declared.reloc.ModuleReloc.{ModuleReloc}
 use Rattle.cranelift_module.specs.declared.reloc.ModuleRelocTarget.{ModuleRelocTarget}
 use Rattle.cranelift_module.specs.declared.reloc.ModuleRelocTarget.TheVariants.{User, LibCall, KnownSymbol, FunctionOffset}
-use Rattle.cranelift_module.specs.Rows.{FunctionRow, DataRow}
+use Rattle.cranelift_module.specs.Rows.{FunctionRow}
 use Rattle.cranelift_module.specs.Definitions.{Definition}
 use Rattle.cranelift_module.specs.LinkState.{LinkState, is_function_named, is_data_named}
-use Rattle.cranelift_module.specs.Declarations.{declared_under}
 use Rattle.cranelift_module.specs.Refusal.{Refusal, refuse_if, undeclared, missing_definition, function_name, is_defined}
 use Rattle.cranelift_module.specs.Texts.{user_text}
 use Rattle.cranelift_object.specs.Settings.{Settings, library_text}
 use Rattle.cranelift_object.specs.Kept.{IsDeclared}
 use Rattle.cranelift_object.specs.Targets.{RelocationTarget, identifier, library, known, label, library_target, target_of, targets, is_same_target, is_extra}
 use Rattle.cranelift_object.specs.EndCause.{target_cause, label_cause, is_declared, first_bad_target, first_bad_reference}
-use Rattle.cranelift_object.specs.Extras.{extra_target, AreExtras, targets_in}
+use Rattle.cranelift_object.specs.Extras.{extra_target, resolved_target, AreExtras, targets_in}
 use Rattle.cranelift_object.specs.declared.extras.Extra.{Extra}
+use Rattle.cranelift_object.specs.declared.extras.ResolvedTarget.{ResolvedTarget}
+use Rattle.cranelift_object.specs.declared.extras.ResolvedTarget.TheVariants.{Identifier}
 use Rattle.cranelift_object.proofs.ClassLaws.{All-front, All-last}
 use Rattle.cranelift_object.proofs.FinishLaws.{causes_none, bad_both}
 use Rattle.cranelift_object.proofs.ExtraLaws.{same_self, once_any}
@@ -88,6 +89,10 @@ targets_had settings s (d ∷ ds) h =
     let parts = causes_none (first_bad_target s d.relocs) (first_bad_target s (flat_map (λ (x : Definition). x.relocs) ds)) (sym (bad_both s d.relocs (flat_map (λ (x : Definition). x.relocs) ds)) ∙ h) in
     All-append (IsHad s) (targets_in settings s d.relocs) (targets settings s ds) (relocs_had settings s d.relocs parts.0) (targets_had settings s ds parts.1)
 
+-- an identifier that a relocation goes to is declared
+pub identifier_had : (settings : Settings) (s : LinkState) (t : ModuleRelocTarget) (r : ResolvedTarget) (id : FuncOrDataId) → r ≡ Identifier id → resolved_target settings r ≡ target_of settings s t → target_cause s t ≡ None → IsDeclared (length s.functions) (length s.objects) id
+identifier_had settings s t r id is e h = subst (IsHad s) (sym e ∙ ap (resolved_target settings) is) (target_had settings s t h)
+
 -- -- and is among what is added
 
 filter_all_from : (P : RelocationTarget → Type 0) (t : RelocationTarget) (ts : List RelocationTarget) (b : Bool) → P t → All P ts → All P (cond b (t ∷ ts) ts)
@@ -112,11 +117,12 @@ once_all P =
     by_end (λ (ts : List RelocationTarget). All P ts → All P (once_each is_same_target ts)) (once_all_none P)
     (λ ts t before all. (rw (once_each-end is_same_target ts t) (once_all_end P (once_each is_same_target ts) t (list_any (is_same_target t) ts) (All-last P ts t all) (before (All-front P ts t all)))))
 
+or_true : (a c : Bool) → c ≡ true → (a || c) ≡ true
+or_true true c e = refl
+or_true false c e = e
+
 among_from : (t x : RelocationTarget) (ts : List RelocationTarget) (b : Bool) → list_any (is_same_target t) ts ≡ true → list_any (is_same_target t) (cond b (x ∷ ts) ts) ≡ true
-among_from t x ts true h = or_true (is_same_target t x) (list_any (is_same_target t) ts) h where
-  or_true : (a c : Bool) → c ≡ true → (cond a true c) ≡ true
-  or_true true c e = refl
-  or_true false c e = e
+among_from t x ts true h = or_true (is_same_target t x) (list_any (is_same_target t) ts) h
 among_from t x ts false h = h
 
 -- a target that adds is among those that add

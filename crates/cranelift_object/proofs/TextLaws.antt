@@ -1,12 +1,12 @@
 -- The texts of library calls.
-use Rattle.std.proofs.Common.{◌≡◌, ℕ, zero, suc, ◌+◌, ◌<◌, ◌≤◌, ◌||◌, ◌∷◌, List, [], Bool, true, false, cond, length, map, Option, Some, None, refl, ap, sym, ◌∙◌, arith, bytes_eq, String, Global, string_bytes, not}
+use Rattle.std.proofs.Common.{◌≡◌, ℕ, zero, suc, ◌+◌, ◌<◌, ◌≤◌, ◌||◌, ◌∷◌, List, [], Bool, true, false, cond, length, map, Some, None, refl, ap, sym, ◌∙◌, arith, bytes_eq, String, Global, string_bytes, not}
 use Rattle.std.specs.Prelude.{slice_get, unwrap_or, nat_lt}
 use Rattle.std.specs.List.{All, list_any, position_or_len, position_from}
-use Rattle.std.proofs.lemmas.Bool.{ltb-false, ltb-true}
+use Rattle.std.proofs.lemmas.Bool.{ltb-false}
 use Rattle.std.proofs.lemmas.Slice.Eq.{bytes_eq-Decides}
 use Rattle.std.proofs.lemmas.Iterator.Adapters.{position_from-zero}
-use Rattle.std.proofs.lemmas.List.Elements.{All-nil, All-cons, All-head, All-tail}
-use Rattle.cranelift_module.specs.Refusal.{Refusal, first_cause, zero_byte}
+use Rattle.std.proofs.lemmas.List.Elements.{All-nil, All-cons}
+use Rattle.cranelift_module.specs.Refusal.{first_cause, zero_byte}
 use Rattle.ir_core.specs.declared.reloc.LibCall.{LibCall}
 use Rattle.ir_core.specs.declared.reloc.LibCall.TheVariants.{Probestack, CeilF32, CeilF64, FloorF32, FloorF64, TruncF32, TruncF64, NearestF32, NearestF64, FmaF32, FmaF64, Memcpy, Memset, Memmove, Memcmp, ElfTlsGetAddr, ElfTlsGetOffset, X86Pshufb}
 use Rattle.cranelift_module.specs.LibraryNames.{library_place}

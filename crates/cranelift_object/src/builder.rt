@@ -45,7 +45,7 @@ ghost use Rattle.std.specs.List.{position_or_len, position_from};
 impl ObjectBuilder {
     /// Settings with both options off. A target that isn't built, a zero byte in the file's name and one in a text of
     /// a library call are refused. Mach-O for x86_64 and aarch64 comes with a later stage.
-    #[tactic(auto, using(crate::proofs::KeptLaws::supported_elf), unfolding(crate::specs::Part::start_cause))]
+    #[tactic(auto, using(crate::proofs::KeptLaws::supported_elf, crate::proofs::TextLaws::texts_free), unfolding(crate::specs::Part::start_cause))]
     pub fn new(
         alloc: Global,
         isa: TargetIsa,

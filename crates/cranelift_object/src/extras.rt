@@ -1,7 +1,7 @@
 //! What relocations go to, and what they add to an object: texts of library calls, known symbols and labels.
 
-ghost use Rattle.std.specs.Prelude.{◌≡◌, ◌<◌, ◌+◌, ◌*◌, ◌^◌, length, OnOk};
-ghost use Rattle.std.specs.List.{position_or_len};
+ghost use Rattle.std.specs.Prelude.{◌≡◌, ◌<◌, ◌++◌, ◌∷◌, [], false, ◌+◌, ◌*◌, ◌^◌, length, OnOk};
+ghost use Rattle.std.specs.List.{position_or_len, list_any};
 ghost use Rattle.cranelift_object.specs.Extras.{extra_key, has_key, with_extra};
 ghost use Rattle.cranelift_object.specs.Targets.{known_place};
 
@@ -76,8 +76,6 @@ impl Model for Extras {
 }
 
 impl Extras {
-    ghost use Rattle.std.specs.Prelude.{[]};
-
     /// Nothing yet.
     pub(crate) fn new(alloc: Global) -> Extras
         ensures { result ≡ [] }
@@ -110,10 +108,25 @@ impl Extras {
     pub(crate) fn note(&mut self, extra: Extra) -> Result<(), AllocError>
         ensures { OnOk result (self.new ≡ with_extra self.old extra) }
     {
-        let key = extra.key();
-        if self.places.contains_key(&key) {
+        if self.has(&extra) {
             return Ok(());
         }
+        self.append(extra)
+    }
+
+    // Whether it is among them.
+    fn has(&self, extra: &Extra) -> bool
+        ensures { result ≡ list_any (has_key (extra_key extra.now)) self.now }
+    {
+        self.places.contains_key(&extra.key())
+    }
+
+    // Appends one that is not yet among them.
+    fn append(&mut self, extra: Extra) -> Result<(), AllocError>
+        requires { list_any (has_key (extra_key extra)) self.old ≡ false }
+        ensures { OnOk result (self.new ≡ self.old ++ extra ∷ []) }
+    {
+        let key = extra.key();
         self.found.reserve(1)?;
         self.places.insert(key, self.found.len())?;
         match self.found.push(extra) {

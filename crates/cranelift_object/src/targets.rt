@@ -122,6 +122,7 @@ impl ObjectModule {
         extras: &Extras,
     ) -> Result<(), AllocError>
         requires defined { object.old ≡ partial (self.now).settings (self.now).state (self.now).state.definitions }
+        requires identifiers { HasIdentifiers (self.now).settings (self.now).state object.old }
         requires symbols { AreMarks (self.now).state symbols.now.functions.items symbols.now.objects.items }
         requires extras { AreExtras (self.now).settings (self.now).state extras.now }
         requires targets { first_bad_reference (self.now).state ≡ None }

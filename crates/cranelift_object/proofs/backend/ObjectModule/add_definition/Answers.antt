@@ -127,6 +127,6 @@ returns c =
     let later = later_is c.args.self.now marks c.args.number d c.args.object.now c.open_section.new.object h at c.requires.before c.in_ok-section.ensures.opened in
     let place = section_is c.args.self.now c.args.number d c.args.object.now c.in_ok-section.section c.requires.before c.in_ok-section.ensures.id in
     let symbol = c.symbol_of-symbol.ensures ∙ ap (symbol_number c.args.self.now.state) c.identifier.ensures in
-    let rest = ap (λ rs. with_relocations c.add_contents.new.object c.in_ok-section.section (map (object_relocation c.args.self.now.settings c.args.self.now.state c.in_ok-offset.offset) rs)) c.relocs.ensures in
+    let rest = ap (λ rs. with_relocations c.add_contents.new.object c.in_ok-section.section (map (object_relocation c.args.self.now.settings c.args.self.now.state c.in_ok-offset.offset) rs)) c.relocs-relocs.ensures in
     adds c.args.self.now marks c.args.number c.symbol_of-symbol.result c.in_ok-section.section c.alignment_of-align.result c.in_ok-offset.offset d c.open_section.new.object c.add_contents.new.object c.add_relocations.new.object h at later place symbol c.alignment_of-align.ensures
     c.in_ok-offset.ensures.offset c.in_ok-offset.ensures.ok (c.in_ok-add_relocations.ensures ∙ rest)
