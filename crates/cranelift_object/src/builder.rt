@@ -32,9 +32,9 @@ impl Model for ObjectBuilder {
     ghost Value = { BuilderData };
 
     ghost use Rattle.cranelift_object.specs.Kept.{IsBegun};
-ghost use Rattle.cranelift_object.specs.Extras.{text_of};
-ghost use Rattle.cranelift_module.specs.LibraryNames.{library_place};
-ghost use Rattle.std.specs.List.{position_or_len, position_from};
+    ghost use Rattle.cranelift_object.specs.Extras.{text_of};
+    ghost use Rattle.cranelift_module.specs.LibraryNames.{library_place};
+    ghost use Rattle.std.specs.List.{position_or_len, position_from};
     ghost use Rattle.cranelift_object.specs.BuilderView.{builder_view};
 
     ghost view = { builder_view };

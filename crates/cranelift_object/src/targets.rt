@@ -22,9 +22,7 @@ use crate::extras::{Extra, Extras, ResolvedTarget};
 use crate::finishing::Symbols;
 use cranelift_module::{DataId, FuncId, FuncOrDataId, Module, ModuleReloc, ModuleRelocTarget};
 use ir_core::{KnownSymbol, LibCall};
-use object_core::{
-    Object, Symbol, SymbolId, SymbolKind, SymbolName, SymbolScope, SymbolSection,
-};
+use object_core::{Object, Symbol, SymbolId, SymbolKind, SymbolName, SymbolScope, SymbolSection};
 use std::alloc::{AllocError, Global};
 
 impl ObjectModule {

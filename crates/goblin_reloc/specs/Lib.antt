@@ -1,4 +1,5 @@
 pub mod Row
+pub mod Machine
 pub mod X86
 pub mod X86_64
 pub mod Aarch64

@@ -1,7 +1,7 @@
--- What stands in a table of relocation numbers.
+-- What stands in a table of relocation numbers, or of machines.
 use Rattle.std.specs.Prelude.{◌≡◌, ℕ, List, map}
 
--- a relocation: its number and its name in the processor's supplement, and this crate's constant of that name
+-- a number and its name in the public document, and this crate's constant of that name
 pub record Row : Type 0 where
   pub number : ℕ
   pub name : List ℕ

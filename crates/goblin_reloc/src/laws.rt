@@ -1,6 +1,7 @@
-//! The law of the constants. The function does nothing; its contract is the law.
+//! The laws of the constants. The functions do nothing; their contracts are the laws.
 
 ghost use Rattle.goblin_reloc.specs.Row.{ConstantsAgree};
+ghost use Rattle.goblin_reloc.specs.Machine.{machine_rows};
 ghost use Rattle.goblin_reloc.specs.X86.{x86_rows};
 ghost use Rattle.goblin_reloc.specs.X86_64.{x86_64_rows};
 ghost use Rattle.goblin_reloc.specs.Aarch64.{aarch64_rows};
@@ -30,4 +31,10 @@ pub fn older_constant_laws()
     ensures powerpc { ConstantsAgree powerpc_rows }
     ensures powerpc64 { ConstantsAgree powerpc64_rows }
     ensures openrisc { ConstantsAgree openrisc_rows }
+{}
+
+/// Each constant of a machine is the number that the table of machines has for its name.
+#[tactic(auto, unfolding(crate::specs::Machine::machine_rows))]
+pub fn machine_laws()
+    ensures { ConstantsAgree machine_rows }
 {}

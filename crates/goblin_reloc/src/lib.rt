@@ -1,13 +1,15 @@
-//! The numbers of ELF relocations, one module a machine; each constant is also reachable here by its name.
-//! The numbers are those of the processors' supplements to the System V ABI, with the names of the `elf.h`
-//! that C libraries bring. The crate stands on nothing. The layers above rely on `constant_laws`: each
-//! constant is the number that the table of its machine has for its name.
+//! The numbers of ELF relocations, one module a machine, and those of the machines; each constant is also
+//! reachable here by its name. The numbers are those of the processors' supplements to the System V ABI, with
+//! the names of the `elf.h` that C libraries bring, and for the machines those of the System V gABI. The crate
+//! stands on nothing. The layers above rely on `constant_laws`: each constant is the number that the table of
+//! its machine has for its name; and on `machine_laws`, which says the same of the machines.
 #![tactic(auto)]
 
 pub mod aarch64;
 pub mod arm;
 mod laws;
 pub mod loongarch;
+pub mod machine;
 pub mod mips;
 pub mod openrisc;
 pub mod powerpc;
@@ -16,7 +18,13 @@ pub mod riscv;
 pub mod x86;
 pub mod x86_64;
 
-pub use laws::{constant_laws, older_constant_laws};
+pub use laws::{constant_laws, machine_laws, older_constant_laws};
+
+// The machines, numbers 0 to 258.
+pub use machine::{
+    EM_386, EM_AARCH64, EM_ARM, EM_LOONGARCH, EM_MIPS, EM_MIPS_RS3_LE, EM_MIPS_X, EM_NONE,
+    EM_OPENRISC, EM_PPC, EM_PPC64, EM_RISCV, EM_X86_64,
+};
 
 // x86, numbers 0 to 21.
 pub use x86::{

@@ -2,6 +2,7 @@
 use Rattle.std.specs.Prelude.{ℕ, List, [], ◌∷◌, codes, ◌==◌, Option, option_map}
 use Rattle.std.specs.List.{find}
 use Rattle.goblin_reloc.specs.Row.{Row}
+use Rattle.goblin_reloc.specs.declared.machine.TheConstants.{EM_386, EM_MIPS, EM_MIPS_RS3_LE, EM_PPC, EM_PPC64, EM_ARM, EM_MIPS_X, EM_X86_64, EM_OPENRISC, EM_AARCH64, EM_RISCV, EM_LOONGARCH}
 use Rattle.goblin_reloc.specs.X86.{x86_rows}
 use Rattle.goblin_reloc.specs.X86_64.{x86_64_rows}
 use Rattle.goblin_reloc.specs.Aarch64.{aarch64_rows}
@@ -54,11 +55,12 @@ openrisc = family openrisc_rows 2 (codes "R_UNKNOWN_OR1K")
 unfoldable pub loongarch : Family
 loongarch = family loongarch_rows 2 (codes "R_UNKNOWN_LOONGARCH")
 
--- the machines with a family, by the numbers of the System V gABI ("ELF Header", e_machine); three are of MIPS
+-- the machines with a family, by their numbers; three are of MIPS
 abbrev pub machines : List (ℕ × Family)
 machines =
-    (3, x86) ∷ (8, mips) ∷ (10, mips) ∷ (20, powerpc) ∷ (21, powerpc64) ∷ (40, arm) ∷ (51, mips) ∷ (62, x86_64)
-    ∷ (92, openrisc) ∷ (183, aarch64) ∷ (243, riscv) ∷ (258, loongarch) ∷ []
+    (EM_386, x86) ∷ (EM_MIPS, mips) ∷ (EM_MIPS_RS3_LE, mips) ∷ (EM_PPC, powerpc) ∷ (EM_PPC64, powerpc64) ∷ (EM_ARM, arm)
+    ∷ (EM_MIPS_X, mips) ∷ (EM_X86_64, x86_64) ∷ (EM_OPENRISC, openrisc) ∷ (EM_AARCH64, aarch64) ∷ (EM_RISCV, riscv)
+    ∷ (EM_LOONGARCH, loongarch) ∷ []
 
 -- the family of a machine, and none for any other number
 abbrev pub family_of : ℕ → Option Family

@@ -1,5 +1,4 @@
-//! The name of a relocation number. The numbers of machines are those of the System V gABI ("ELF Header",
-//! `e_machine`).
+//! The name of a relocation number.
 
 ghost use Rattle.std.specs.Prelude.{◌≡◌};
 ghost use Rattle.goblin_reloc_names.specs.Lookup.{name_among};
@@ -9,31 +8,10 @@ use crate::families::{
     FamilyNames, aarch64_names, arm_names, loongarch_names, mips_names, openrisc_names,
     powerpc_names, powerpc64_names, riscv_names, x86_64_names, x86_names,
 };
-
-/// Intel 80386.
-const EM_386: u16 = 3;
-/// MIPS.
-const EM_MIPS: u16 = 8;
-/// MIPS RS3000, little-endian.
-const EM_MIPS_RS3_LE: u16 = 10;
-/// PowerPC, 32 bits.
-const EM_PPC: u16 = 20;
-/// PowerPC, 64 bits.
-const EM_PPC64: u16 = 21;
-/// Arm, 32 bits.
-const EM_ARM: u16 = 40;
-/// Stanford MIPS-X.
-const EM_MIPS_X: u16 = 51;
-/// x86-64.
-const EM_X86_64: u16 = 62;
-/// OpenRISC.
-const EM_OPENRISC: u16 = 92;
-/// Arm, 64 bits.
-const EM_AARCH64: u16 = 183;
-/// RISC-V.
-const EM_RISCV: u16 = 243;
-/// LoongArch.
-const EM_LOONGARCH: u16 = 258;
+use goblin_reloc::{
+    EM_386, EM_AARCH64, EM_ARM, EM_LOONGARCH, EM_MIPS, EM_MIPS_RS3_LE, EM_MIPS_X, EM_OPENRISC,
+    EM_PPC, EM_PPC64, EM_RISCV, EM_X86_64,
+};
 
 /// The name of the relocation number `typ` of a machine, the ELF header's `e_machine`.
 ///

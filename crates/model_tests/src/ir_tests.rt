@@ -4,7 +4,7 @@ use ir_core::{
     AbiParam, Architecture, ArgumentExtension, ArgumentPurpose, BinaryFormat, CallConv,
     Environment, ExtFuncData, ExternalName, FuncRef, Function, GlobalValue, GlobalValueData,
     KnownSymbol, LibCall, MachLabel, Reloc, SigRef, Signature, SourceLoc, System, TargetIsa,
-    TrapCode, Triple, UserExternalName, ValueType,
+    TrapCode, Triple, UserExternalName, ValueType, elf_machine, elf_number, field_width,
 };
 use std::test::Fail;
 
@@ -105,6 +105,37 @@ fn kinds_and_names_print_as_they_are_written(rt: HostRuntime) -> Result<(), Fail
         "ElfGlobalOffsetTable"
     );
     Ok(())
+}
+
+#[test]
+fn three_processors_have_a_number_in_an_elf_header(rt: HostRuntime) {
+    assert_eq!(rt; elf_machine(Architecture::X86_64), 62);
+    assert_eq!(rt; elf_machine(Architecture::Aarch64), 183);
+    assert_eq!(rt; elf_machine(Architecture::Riscv64), 243);
+    assert_eq!(rt; elf_machine(Architecture::Arm), 0);
+}
+
+#[test]
+fn a_kind_has_the_number_of_each_processor_that_has_it(rt: HostRuntime) {
+    let processors = [
+        (Architecture::X86_64, Some(1), Some(10)),
+        (Architecture::Aarch64, Some(257), Some(258)),
+        (Architecture::Riscv64, Some(2), Some(1)),
+        (Architecture::X86_32, None, None),
+        (Architecture::S390x, None, None),
+    ];
+    for (processor, eight, four) in &processors {
+        assert_eq!(rt; elf_number(*processor, Reloc::Abs8), *eight);
+        assert_eq!(rt; elf_number(*processor, Reloc::Abs4), *four);
+        assert_eq!(rt; elf_number(*processor, Reloc::X86SecRel), None);
+    }
+    assert_eq!(rt;
+        elf_number(Architecture::Riscv64, Reloc::RiscvCallPlt),
+        Some(19)
+    );
+    assert_eq!(rt; elf_number(Architecture::X86_64, Reloc::RiscvCallPlt), None);
+    assert_eq!(rt; field_width(Reloc::RiscvCallPlt), 8);
+    assert_eq!(rt; field_width(Reloc::Arm64Call), 4);
 }
 
 #[test]

@@ -11,3 +11,5 @@ mod json_tests;
 mod module_text_tests;
 #[cfg(test)]
 mod object_tests;
+#[cfg(test)]
+mod reloc_tests;

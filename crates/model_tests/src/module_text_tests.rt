@@ -106,13 +106,53 @@ fn identifiers_and_targets_print_as_the_linker_log_shows_them(rt: HostRuntime) -
 
 #[test]
 fn library_calls_have_the_names_of_the_c_library(rt: HostRuntime) -> Result<(), Fail> {
+    let names = default_libcall_names(rt.alloc())?;
+    let rows = [
+        (LibCall::Probestack, "__cranelift_probestack"),
+        (LibCall::CeilF32, "ceilf"),
+        (LibCall::CeilF64, "ceil"),
+        (LibCall::FloorF32, "floorf"),
+        (LibCall::FloorF64, "floor"),
+        (LibCall::TruncF32, "truncf"),
+        (LibCall::TruncF64, "trunc"),
+        (LibCall::NearestF32, "nearbyintf"),
+        (LibCall::NearestF64, "nearbyint"),
+        (LibCall::FmaF32, "fmaf"),
+        (LibCall::FmaF64, "fma"),
+        (LibCall::Memcpy, "memcpy"),
+        (LibCall::Memset, "memset"),
+        (LibCall::Memmove, "memmove"),
+        (LibCall::Memcmp, "memcmp"),
+        (LibCall::ElfTlsGetAddr, "__tls_get_addr"),
+        (LibCall::ElfTlsGetOffset, "__tls_get_offset"),
+        (LibCall::X86Pshufb, "__cranelift_x86_pshufb"),
+    ];
+    for (call, text) in &rows {
+        assert_eq!(rt; names.get(*call), *text);
+    }
+    assert_eq!(rt; names.texts().len(), rows.len());
+    Ok(())
+}
+
+#[test]
+fn a_library_call_gets_another_text_and_the_others_keep_theirs(
+    rt: HostRuntime,
+) -> Result<(), Fail> {
     let mut names = default_libcall_names(rt.alloc())?;
-    assert_eq!(rt; names.get(LibCall::Probestack), "__cranelift_probestack");
-    assert_eq!(rt; names.get(LibCall::NearestF32), "nearbyintf");
-    assert_eq!(rt; names.get(LibCall::X86Pshufb), "__cranelift_x86_pshufb");
     names.set(LibCall::Memcpy, "my_copy")?;
-    assert_eq!(rt; names.get(LibCall::Memcpy), "my_copy");
-    assert_eq!(rt; names.get(LibCall::Memset), "memset");
+    names.set(LibCall::Probestack, "")?;
+    let copy = names.copy()?;
+    names.set(LibCall::X86Pshufb, "shuffle")?;
+    assert_eq!(rt; names.get(LibCall::X86Pshufb), "shuffle");
+    assert_eq!(rt; copy.get(LibCall::X86Pshufb), "__cranelift_x86_pshufb");
+    for told in [&names, &copy] {
+        assert_eq!(rt; told.get(LibCall::Probestack), "");
+        assert_eq!(rt; told.get(LibCall::CeilF32), "ceilf");
+        assert_eq!(rt; told.get(LibCall::FmaF64), "fma");
+        assert_eq!(rt; told.get(LibCall::Memcpy), "my_copy");
+        assert_eq!(rt; told.get(LibCall::Memset), "memset");
+        assert_eq!(rt; told.get(LibCall::ElfTlsGetOffset), "__tls_get_offset");
+    }
     Ok(())
 }
 

@@ -7,7 +7,7 @@ ghost use Rattle.object_elf.specs.File.{header_bytes, header_fields};
 ghost use Rattle.object_elf.specs.Writing.{header_with};
 
 use byte_core::{Field, push_fields};
-use ir_core::Architecture;
+use ir_core::{Architecture, elf_machine};
 use std::alloc::AllocError;
 
 /// Magic number, ELFCLASS64, ELFDATA2LSB, EV_CURRENT, and zeros.
@@ -45,7 +45,7 @@ fn push_numbers(
         out,
         &[
             Field::of_u16(1),
-            Field::of_u16(machine(architecture)),
+            Field::of_u16(elf_machine(architecture)),
             Field::of_u32(1),
             Field::of_u64(0),
             Field::of_u64(0),
@@ -59,16 +59,4 @@ fn push_numbers(
             Field::of_u16(count),
         ],
     )
-}
-
-/// EM_X86_64 62, EM_AARCH64 183, EM_RISCV 243, else EM_NONE 0.
-fn machine(architecture: Architecture) -> u16
-    ensures { result ≡ elf_machine architecture }
-{
-    match architecture {
-        Architecture::X86_64 => 62,
-        Architecture::Aarch64 => 183,
-        Architecture::Riscv64 => 243,
-        _ => 0,
-    }
 }

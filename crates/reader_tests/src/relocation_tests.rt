@@ -1,7 +1,7 @@
 //! Numbers of ELF relocations and their names.
 
 use goblin_reloc::{
-    aarch64, arm, loongarch, mips, openrisc, powerpc, powerpc64, riscv, x86, x86_64,
+    aarch64, arm, loongarch, machine, mips, openrisc, powerpc, powerpc64, riscv, x86, x86_64,
 };
 use goblin_reloc_names::r_to_str;
 use std::test::Fail;
@@ -33,6 +33,29 @@ fn a_constant_stands_at_the_root_and_in_its_module(rt: HostRuntime) -> Result<()
         assert_eq!(rt; module, number);
     }
     Ok(())
+}
+
+#[test]
+fn a_machine_has_its_number_at_the_root_and_in_its_module(rt: HostRuntime) {
+    let rows = [
+        (goblin_reloc::EM_NONE, machine::EM_NONE, 0),
+        (goblin_reloc::EM_386, machine::EM_386, 3),
+        (goblin_reloc::EM_MIPS, machine::EM_MIPS, 8),
+        (goblin_reloc::EM_MIPS_RS3_LE, machine::EM_MIPS_RS3_LE, 10),
+        (goblin_reloc::EM_PPC, machine::EM_PPC, 20),
+        (goblin_reloc::EM_PPC64, machine::EM_PPC64, 21),
+        (goblin_reloc::EM_ARM, machine::EM_ARM, 40),
+        (goblin_reloc::EM_MIPS_X, machine::EM_MIPS_X, 51),
+        (goblin_reloc::EM_X86_64, machine::EM_X86_64, 62),
+        (goblin_reloc::EM_OPENRISC, machine::EM_OPENRISC, 92),
+        (goblin_reloc::EM_AARCH64, machine::EM_AARCH64, 183),
+        (goblin_reloc::EM_RISCV, machine::EM_RISCV, 243),
+        (goblin_reloc::EM_LOONGARCH, machine::EM_LOONGARCH, 258),
+    ];
+    for (root, module, number) in rows {
+        assert_eq!(rt; root, number);
+        assert_eq!(rt; module, number);
+    }
 }
 
 #[test]

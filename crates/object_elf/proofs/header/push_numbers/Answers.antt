@@ -16,6 +16,6 @@ returns c =
       c.of_u16-6.ensures,
       c.of_u16-7.ensures,
       c.of_u16-8.ensures,
-      c.machine.ensures,
+      c.elf_machine.ensures,
     )
     at c.push_fields.ensures.ok
