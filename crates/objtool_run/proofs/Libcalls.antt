@@ -79,11 +79,12 @@ text_step d i call x old new all h is len so_far set =
     let place = placed i call x h is in
     let one = set_at i call old new (get (libcall_name call) d) (rw place at set) in
     let front : take (i + 1) new ≡ take i old ++ one.0 ∷ [] = ap (λ ts. take (i + 1) ts) one.2 ∙ take_more_set old i one.0 (omega arith) in
-    let back : drop (i + 1) new ≡ drop (i + 1) old = ap (λ ts. drop (i + 1) ts) one.2 ∙ drop-set-lt (i + 1) old i one.0 (omega arith) in
-    (so_far ∙ ap (λ rest. with_front (take i old) rest) (rest_at d i call x old h len is)
-      ∙ one_more d call (drop (i + 1) libcalls) (get_or old i []) one.0 (drop (i + 1) old) (take i old) one.1
-      ∙ sym (ap (λ ts. with_front ts (texts_of d (drop (i + 1) libcalls) (drop (i + 1) new))) front ∙ ap (λ ts. with_front (take i old ++ one.0 ∷ []) (texts_of d (drop (i + 1) libcalls) ts)) back),
-    ap length one.2 ∙ length-set old i one.0 ∙ len)
+    let back : drop (i + 1) new ≡ drop (i + 1) old = ap (λ ts. drop (i + 1) ts) one.2 ∙ drop-set-lt (i + 1) old i one.0 (omega arith) in (
+      so_far ∙ ap (λ rest. with_front (take i old) rest) (rest_at d i call x old h len is)
+          ∙ one_more d call (drop (i + 1) libcalls) (get_or old i []) one.0 (drop (i + 1) old) (take i old) one.1
+          ∙ sym (ap (λ ts. with_front ts (texts_of d (drop (i + 1) libcalls) (drop (i + 1) new))) front ∙ ap (λ ts. with_front (take i old ++ one.0 ∷ []) (texts_of d (drop (i + 1) libcalls) ts)) back),
+      ap length one.2 ∙ length-set old i one.0 ∙ len,
+    )
 
 -- a text can't be set
 pub text_stop : (d : Data) (i : ℕ) (call x : LibCall) (old : List (List ℕ)) (all : Option (List (List ℕ))) (e : FormError) → i < 18 → call ≡ get_or libcalls i x → length old ≡ 18

@@ -1,7 +1,5 @@
 use Rattle.std.proofs.Common.{ℕ, ℤ, ◌∙◌, ap, Some}
 use Rattle.std.proofs.lemmas.List.{map-id}
-use Rattle.cranelift_module.specs.declared.reloc.ModuleReloc.{ModuleReloc}
-use Rattle.cranelift_module.specs.declared.reloc.ModuleRelocTarget.{ModuleRelocTarget}
 use Rattle.json_form.proofs.EachOf.{each_step, each_stop, each_end}
 use Rattle.objtool_run.specs.DefinitionForm.{data_address_of}
 use Rattle.objtool_run.proofs.script.definition.data_addresses_in.Goals as goal

@@ -15,8 +15,8 @@ loop-value-preserved c =
     let one = flagged c.loop-value.isa c.push_flag.new.isa (flag_of (view c.value-item.result)) c.in-Ok.ensures.ok in
     record {
       flags =
-        each_step flag_of (λ (x : List ℕ × Option Bool). x) c.args.values.now c.loop-value.value-index c.value-item.result c.loop-value.isa.flags c.push_flag.new.isa.flags one.0 _
-        c.loop-value-test.true c.value-item.is (ap (λ (t : Target). t.flags) one.2) c.loop-value.invariant.flags one.1;
+          each_step flag_of (λ (x : List ℕ × Option Bool). x) c.args.values.now c.loop-value.value-index c.value-item.result c.loop-value.isa.flags c.push_flag.new.isa.flags one.0 _
+          c.loop-value-test.true c.value-item.is (ap (λ (t : Target). t.flags) one.2) c.loop-value.invariant.flags one.1;
       triple = ap (λ (t : Target). t.triple) one.2 ∙ c.loop-value.invariant.triple;
     }
 
