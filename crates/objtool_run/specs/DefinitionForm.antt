@@ -3,7 +3,7 @@ use Rattle.std.specs.Prelude.{◌≡◌, ℕ, ℤ, pos, Bool, true, false, List,
 use Rattle.serde_json.specs.Data.{Data}
 use Rattle.serde_json.specs.Find.{get, at, as_str, as_number, as_i64}
 use Rattle.ir_core.specs.declared.reloc.Reloc.{Reloc}
-use Rattle.ir_core.specs.declared.reloc.Reloc.TheVariants.{Abs4, Abs8, X86PCRel4, X86CallPCRel4, X86CallPLTRel4, X86GOTPCRel4, X86SecRel, Arm64Call, S390xPCRel32Dbl, S390xPLTRel32Dbl, ElfX86_64TlsGd, MachOX86_64Tlv, MachOAarch64TlsAdrPage21, MachOAarch64TlsAdrPageOff12, Aarch64TlsDescAdrPage21, Aarch64TlsDescLd64Lo12, Aarch64TlsDescAddLo12, Aarch64TlsDescCall, Aarch64AdrGotPage21, Aarch64Ld64GotLo12Nc, Aarch64AdrPrelPgHi21, Aarch64AddAbsLo12Nc, RiscvCallPlt, RiscvTlsGdHi20, RiscvPCRelLo12I, RiscvGotHi20, RiscvPCRelHi20, S390xTlsGd64, S390xTlsGdCall}
+use Rattle.ir_core.specs.declared.reloc.Reloc.TheVariants as reloc
 use Rattle.ir_core.specs.declared.reloc.KnownSymbol.{KnownSymbol}
 use Rattle.ir_core.specs.declared.reloc.KnownSymbol.TheVariants.{ElfGlobalOffsetTable, CoffTlsIndex}
 use Rattle.ir_core.specs.Names.{reloc_name, known_symbol_name}
@@ -60,9 +60,11 @@ target_of d =
 -- all kinds
 abbrev pub kinds : List Reloc
 kinds =
-    Abs4 ∷ Abs8 ∷ X86PCRel4 ∷ X86CallPCRel4 ∷ X86CallPLTRel4 ∷ X86GOTPCRel4 ∷ X86SecRel ∷ Arm64Call ∷ S390xPCRel32Dbl ∷ S390xPLTRel32Dbl ∷ ElfX86_64TlsGd ∷ MachOX86_64Tlv
-    ∷ MachOAarch64TlsAdrPage21 ∷ MachOAarch64TlsAdrPageOff12 ∷ Aarch64TlsDescAdrPage21 ∷ Aarch64TlsDescLd64Lo12 ∷ Aarch64TlsDescAddLo12 ∷ Aarch64TlsDescCall ∷ Aarch64AdrGotPage21
-    ∷ Aarch64Ld64GotLo12Nc ∷ Aarch64AdrPrelPgHi21 ∷ Aarch64AddAbsLo12Nc ∷ RiscvCallPlt ∷ RiscvTlsGdHi20 ∷ RiscvPCRelLo12I ∷ RiscvGotHi20 ∷ RiscvPCRelHi20 ∷ S390xTlsGd64 ∷ S390xTlsGdCall ∷ []
+    reloc.Abs4 ∷ reloc.Abs8 ∷ reloc.X86PCRel4 ∷ reloc.X86CallPCRel4 ∷ reloc.X86CallPLTRel4 ∷ reloc.X86GOTPCRel4
+    ∷ reloc.X86SecRel ∷ reloc.Arm64Call ∷ reloc.S390xPCRel32Dbl ∷ reloc.S390xPLTRel32Dbl ∷ reloc.ElfX86_64TlsGd ∷ reloc.MachOX86_64Tlv
+    ∷ reloc.MachOAarch64TlsAdrPage21 ∷ reloc.MachOAarch64TlsAdrPageOff12 ∷ reloc.Aarch64TlsDescAdrPage21 ∷ reloc.Aarch64TlsDescLd64Lo12 ∷ reloc.Aarch64TlsDescAddLo12 ∷ reloc.Aarch64TlsDescCall
+    ∷ reloc.Aarch64AdrGotPage21 ∷ reloc.Aarch64Ld64GotLo12Nc ∷ reloc.Aarch64AdrPrelPgHi21 ∷ reloc.Aarch64AddAbsLo12Nc ∷ reloc.RiscvCallPlt ∷ reloc.RiscvTlsGdHi20
+    ∷ reloc.RiscvPCRelLo12I ∷ reloc.RiscvGotHi20 ∷ reloc.RiscvPCRelHi20 ∷ reloc.S390xTlsGd64 ∷ reloc.S390xTlsGdCall ∷ []
 
 -- the kind that a name stands for
 abbrev pub kind_of : List ℕ → Option Reloc
