@@ -91,7 +91,7 @@ undefined_row defined id align (Some r) h = (r, refl)
 pub definable_declared : (defined : Bool) (id align : ℕ) (functions : List FunctionRow) → undefinable defined id align (slice_get functions id) ≡ None → id < length functions
 definable_declared defined id align functions h = let row = undefined_row defined id align (slice_get functions id) h in slice_get_within functions id row.0 row.1
 
-not_refused : (test : Bool) (r : Refusal) → refuse_if test r ≡ None → test ≡ false
+pub not_refused : (test : Bool) (r : Refusal) → refuse_if test r ≡ None → test ≡ false
 not_refused true r h = absurd (cc)
 not_refused false r h = refl
 

@@ -29,6 +29,10 @@ use Rattle.cranelift_object.proofs.ClassLaws.{place_in, place_past}
 
 -- -- each has a number of its own
 
+pub or_true : (a c : Bool) → c ≡ true → (a || c) ≡ true
+or_true true c h = refl
+or_true false c h = h
+
 pub same_bool : (a b : Bool) → (a ≡ true → b ≡ true) → (b ≡ true → a ≡ true) → a ≡ b
 same_bool true b f g = sym (f refl)
 same_bool false true f g = g refl

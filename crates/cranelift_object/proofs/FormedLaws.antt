@@ -53,7 +53,8 @@ use Rattle.cranelift_object.proofs.ClassLaws.{equal, placed_below, placed_defini
 use Rattle.cranelift_object.proofs.PlaceLaws.{places_within, ends_within}
 use Rattle.cranelift_object.proofs.ObjectLaws.{partial_whole, map_twice}
 use Rattle.cranelift_object.proofs.AddingLaws.{identifier_there, get_behind}
-use Rattle.cranelift_object.proofs.TargetLaws.{IsHad, IsReached, not_refused, was_true, extras_had, all_reached, each_reached}
+use Rattle.cranelift_object.proofs.CallLaws.{not_refused}
+use Rattle.cranelift_object.proofs.TargetLaws.{IsHad, IsReached, was_true, unmapped, extras_had, all_reached, each_reached}
 use Rattle.byte_core.proofs.Lists.{get_append}
 use Rattle.cranelift_object.proofs.OpenLaws.{sections_length}
 use Rattle.cranelift_object.proofs.FinishLaws.{causes_none}
@@ -432,10 +433,6 @@ All-both : {A : Type 0} (P Q : A → Type 0) (xs : List A) → All P xs → All 
 All-both P Q [] a b = All-nil (λ x. P x × Q x)
 All-both P Q (x ∷ xs) a b = All-cons (λ y. P y × Q y) x xs (All-head P x xs a, All-head Q x xs b) (All-both P Q xs (All-tail P x xs a) (All-tail Q x xs b))
 
-All-unmap : {A B : Type 0} (P : B → Type 0) (f : A → B) (xs : List A) → All P (map f xs) → All (λ x. P (f x)) xs
-All-unmap P f [] all = All-nil (λ x. P (f x))
-All-unmap P f (x ∷ xs) all = All-cons (λ y. P (f y)) x xs (All-head P (f x) (map f xs) all) (All-unmap P f xs (All-tail P (f x) (map f xs) all))
-
 -- what holds of each of a section's definitions
 All-members : (P : Placed → Type 0) (ps : List Placed) (k : ℕ) → All (λ (p : Placed). p.section ≡ k → P p) ps → All P (members ps k)
 All-members P [] k all = All-nil P
@@ -473,7 +470,7 @@ all_known o marks es k h are none =
     let targets : Definition → Type 0 = λ d. All (λ (r : ModuleReloc). IsReached o.settings o.state es (target_of o.settings o.state r.name)) d.relocs in
     let both : Definition → Type 0 = λ d. bodies d × targets d in
     let each = All-both bodies targets ds h.bodies (each_reached o.settings o.state (IsReached o.settings o.state es) ds (all_reached o.settings o.state es are none)) in
-    let here = All-unmap both (λ (p : Placed). p.definition) (placed_of o.settings o.state ds) (subst (All both) (sym (placed_definitions o.settings o.state ds)) each) in
+    let here = unmapped both (λ (p : Placed). p.definition) (placed_of o.settings o.state ds) (subst (All both) (sym (placed_definitions o.settings o.state ds)) each) in
     known_all o es k (placed_of o.settings o.state ds) here (placed_class o.settings o.state ds (before_all o marks h)) (ends_within o.settings o.state k ds (all_least o marks h))
 
 -- as many bytes are stored as the definitions of a section take

@@ -29,11 +29,8 @@ use Rattle.cranelift_object.specs.declared.extras.ResolvedTarget.{ResolvedTarget
 use Rattle.cranelift_object.specs.declared.extras.ResolvedTarget.TheVariants.{Identifier}
 use Rattle.cranelift_object.proofs.ClassLaws.{All-front, All-last}
 use Rattle.cranelift_object.proofs.FinishLaws.{causes_none, bad_both}
-use Rattle.cranelift_object.proofs.ExtraLaws.{same_self, once_any}
-
-pub not_refused : (test : Bool) (r : Refusal) → refuse_if test r ≡ None → test ≡ false
-not_refused true r h = absurd (cc)
-not_refused false r h = refl
+use Rattle.cranelift_object.proofs.CallLaws.{not_refused}
+use Rattle.cranelift_object.proofs.ExtraLaws.{or_true, same_self, once_any}
 
 pub was_true : (b : Bool) → not b ≡ false → b ≡ true
 was_true true h = refl
@@ -117,10 +114,6 @@ once_all P =
     by_end (λ (ts : List RelocationTarget). All P ts → All P (once_each is_same_target ts)) (once_all_none P)
     (λ ts t before all. (rw (once_each-end is_same_target ts t) (once_all_end P (once_each is_same_target ts) t (list_any (is_same_target t) ts) (All-last P ts t all) (before (All-front P ts t all)))))
 
-or_true : (a c : Bool) → c ≡ true → (a || c) ≡ true
-or_true true c e = refl
-or_true false c e = e
-
 among_from : (t x : RelocationTarget) (ts : List RelocationTarget) (b : Bool) → list_any (is_same_target t) ts ≡ true → list_any (is_same_target t) (cond b (x ∷ ts) ts) ≡ true
 among_from t x ts true h = or_true (is_same_target t x) (list_any (is_same_target t) ts) h
 among_from t x ts false h = h
@@ -153,7 +146,7 @@ pub all_reached : (settings : Settings) (s : LinkState) (es : List Extra) → Ar
 all_reached settings s es h none =
     both_reached settings s es (targets settings s s.definitions) (targets settings s s.definitions) h.found (targets_had settings s s.definitions none) (among_all (targets settings s s.definitions))
 
-unmapped : {A B : Type 0} (P : B → Type 0) (f : A → B) (xs : List A) → All P (map f xs) → All (λ x. P (f x)) xs
+pub unmapped : {A B : Type 0} (P : B → Type 0) (f : A → B) (xs : List A) → All P (map f xs) → All (λ x. P (f x)) xs
 unmapped P f [] all = All-nil (λ x. P (f x))
 unmapped P f (x ∷ xs) all = All-cons (λ y. P (f y)) x xs (All-head P (f x) (map f xs) all) (unmapped P f xs (All-tail P (f x) (map f xs) all))
 

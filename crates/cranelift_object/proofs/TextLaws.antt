@@ -19,7 +19,7 @@ use Rattle.cranelift_object.specs.Settings.{Settings, library_text}
 use Rattle.cranelift_object.specs.Extras.{text_of}
 use Rattle.cranelift_object.proofs.ClassLaws.{place_in, place_past, found_place}
 use Rattle.cranelift_object.proofs.FinishLaws.{causes_none}
-use Rattle.cranelift_object.proofs.ExtraLaws.{same_bool}
+use Rattle.cranelift_object.proofs.ExtraLaws.{same_bool, or_true}
 
 flip_eq : (a b : List ℕ) → bytes_eq a b ≡ bytes_eq b a
 flip_eq a b = same_bool (bytes_eq a b) (bytes_eq b a) (λ e. (bytes_eq-Decides b a).1 (sym ((bytes_eq-Decides a b).0 e))) (λ e. (bytes_eq-Decides a b).1 (sym ((bytes_eq-Decides b a).0 e)))
@@ -42,10 +42,6 @@ pub place_is : (text : List ℕ) (ts : List (String Global)) → unwrap_or (posi
 place_is text ts =
     let p : String Global → Bool = λ t. bytes_eq (string_bytes t) text in
     ap (λ o. unwrap_or o (length ts)) (sym (position_from-zero p ts)) ∙ option_place p ts (nat_lt (position_or_len p ts) (length ts)) refl ∙ texts_place text ts
-
-or_true : (a c : Bool) → c ≡ true → (a || c) ≡ true
-or_true true c h = refl
-or_true false c h = h
 
 any_at : (text : List ℕ) (names : List (List ℕ)) (k : ℕ) → slice_get names k ≡ Some text → list_any (bytes_eq text) names ≡ true
 any_at text [] k e = absurd (cc)
