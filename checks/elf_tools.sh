@@ -13,12 +13,24 @@ done
 [ -x "$program" ] || { echo "checks/elf_tools.sh: skipped, the program isn't built"; exit 0; }
 room=$(mktemp -d)
 trap 'rm -rf "$room"' EXIT
-"$program" build < "$top/examples/three_functions.json" | xxd -r -p > "$room/three.o"
-readelf -hSsW "$room/three.o" > "$room/shown" 2> "$room/complaints"
-[ ! -s "$room/complaints" ] || { echo "readelf complains:"; cat "$room/complaints"; exit 1; }
+# The object file NAME.o of a part on standard input, and what readelf shows of it without a complaint: object NAME
+object() {
+    "$program" build | xxd -r -p > "$room/$1.o"
+    readelf -hSsrW "$room/$1.o" > "$room/shown" 2> "$room/complaints"
+    [ ! -s "$room/complaints" ] || { echo "readelf complains of $1.o:"; cat "$room/complaints"; exit 1; }
+}
 shows() {
     grep -Eq "$1" "$room/shown" || { echo "readelf doesn't show: $1"; cat "$room/shown"; exit 1; }
 }
+# Runs a program, which has to exit with the number 42: ends_well WHAT COMMAND..
+ends_well() {
+    what=$1
+    shift
+    status=0
+    "$@" || status=$?
+    [ "$status" = 42 ] || { echo "$what exits with $status, and not with 42"; exit 1; }
+}
+object three < "$top/examples/three_functions.json"
 shows 'Type: +REL'
 shows 'Machine: +Advanced Micro Devices X86-64'
 shows '\.text +PROGBITS +0+ +000040 00000a'
@@ -29,9 +41,7 @@ shows ' 3 FUNC +GLOBAL +DEFAULT +1 second$'
 ld -r "$room/three.o" -o "$room/linked.o"
 readelf -sW "$room/linked.o" | grep -Eq ' 6 FUNC +GLOBAL +DEFAULT +1 first$' || { echo "ld -r lost a symbol"; exit 1; }
 # A program of one file: it exits with the number that its table's pointer leads to, plus what its zeros hold.
-"$program" build < "$top/examples/exit_with_data.json" | xxd -r -p > "$room/exit.o"
-readelf -hSsrW "$room/exit.o" > "$room/shown" 2> "$room/complaints"
-[ ! -s "$room/complaints" ] || { echo "readelf complains:"; cat "$room/complaints"; exit 1; }
+object exit < "$top/examples/exit_with_data.json"
 shows '\.rodata +PROGBITS .* A +0 +0 +4$'
 shows '\.data\.rel\.ro +PROGBITS .* WA +0 +0 +8$'
 shows '\.bss +NOBITS .* WA +0 +0 +4$'
@@ -39,9 +49,7 @@ shows 'R_X86_64_PC32 .* table - 4$'
 shows 'R_X86_64_64 .* answer \+ 0$'
 ld -r "$room/exit.o" "$room/three.o" -o "$room/linked.o"
 ld "$room/exit.o" -o "$room/exit"
-status=0
-"$room/exit" || status=$?
-[ "$status" = 42 ] || { echo "the linked program exits with $status, and not with 42"; exit 1; }
+ends_well "the linked program" "$room/exit"
 
 # Every kind of each processor: name in the form, number, name in readelf, size of the field.
 kinds() {
@@ -90,9 +98,7 @@ every_kind() {
         }'
 }
 for arch in x86_64 aarch64 riscv64; do
-    every_kind "$arch" | "$program" build | xxd -r -p > "$room/kinds.o"
-    readelf -rW "$room/kinds.o" > "$room/shown" 2> "$room/complaints"
-    [ ! -s "$room/complaints" ] || { echo "readelf complains of $arch:"; cat "$room/complaints"; exit 1; }
+    every_kind "$arch" | object "kinds_$arch"
     # The symbol ext is row 2, behind the null row and the file's.
     kinds | awk -v arch="$arch" 'BEGIN { at = 0 } $1 == arch { printf "%016x 00000002%08x %s ext + %x\n", at, $3, $4, at; at += $5 }' > "$room/wanted"
     awk '$3 ~ /^R_/ { print $1, $2, $3, $5, $6, $7 }' "$room/shown" > "$room/rows"
@@ -105,24 +111,18 @@ for arch in aarch64 riscv64; do
         echo "checks/elf_tools.sh: the program for $arch is skipped, no $linker or no qemu-$arch"
         continue
     fi
-    "$program" build < "$top/examples/exit_$arch.json" | xxd -r -p > "$room/exit.o"
-    "$linker" "$room/exit.o" -o "$room/exit"
-    status=0
-    "qemu-$arch" "$room/exit" || status=$?
-    [ "$status" = 42 ] || { echo "the linked program for $arch exits with $status, and not with 42"; exit 1; }
+    object "exit_$arch" < "$top/examples/exit_$arch.json"
+    "$linker" "$room/exit_$arch.o" -o "$room/exit_$arch"
+    ends_well "the linked program for $arch" "qemu-$arch" "$room/exit_$arch"
 done
 # A program that calls memcpy of the C library and jumps to a label of its own.
 if ! command -v gcc >/dev/null 2>&1; then
     echo "checks/elf_tools.sh: the program with a library call is skipped, no gcc"
     exit 0
 fi
-"$program" build < "$top/examples/call_and_label.json" | xxd -r -p > "$room/call.o"
-readelf -srW "$room/call.o" > "$room/shown" 2> "$room/complaints"
-[ ! -s "$room/complaints" ] || { echo "readelf complains:"; cat "$room/complaints"; exit 1; }
+object call < "$top/examples/call_and_label.json"
 shows 'R_X86_64_PLT32 .* memcpy - 4$'
 shows 'R_X86_64_PC32 .* 0*27 \.L0_39 - 4$'
 shows ' 0 NOTYPE +GLOBAL +DEFAULT +UND memcpy$'
 gcc "$room/call.o" -o "$room/call"
-status=0
-"$room/call" || status=$?
-[ "$status" = 42 ] || { echo "the program with a library call exits with $status, and not with 42"; exit 1; }
+ends_well "the program with a library call" "$room/call"
