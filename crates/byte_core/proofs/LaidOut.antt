@@ -1,7 +1,7 @@
 -- Where contents that are laid out by alignments stand.
-use Rattle.std.proofs.Common.{◌≡◌, ℕ, zero, suc, ◌+◌, ◌-◌, ◌≤◌, List, [], ◌∷◌, ◌++◌, length, take, refl, ap, sym, ◌∙◌, append_assoc, append-nil, arith, length-append, Some, slice_get, replicate}
+use Rattle.std.proofs.Common.{◌≡◌, ℕ, zero, suc, ◌+◌, ◌-◌, ◌<◌, ◌≤◌, List, [], ◌∷◌, ◌++◌, length, take, drop, map, get_or, refl, ap, sym, ◌∙◌, append_assoc, append-nil, arith, length-append, Some, slice_get, replicate, take-append-drop}
 use Rattle.std.specs.Int.{next_multiple_of}
-use Rattle.std.proofs.lemmas.List.{length-replicate}
+use Rattle.std.proofs.lemmas.List.{length-replicate, map-append, take_more}
 use Rattle.byte_core.specs.LaidOut.{LaysOut, Aligned, end_behind, end_of_aligned, laid_out}
 use Rattle.byte_core.proofs.Standing.{StandsAt, stands_left, stands_right}
 
@@ -116,3 +116,32 @@ laid_next first out padded new bytes align cs ds e f p w =
 
 pub lays_as : (old new : List ℕ) (cs ds : List Aligned) → cs ≡ ds → LaysOut old new cs → LaysOut old new ds
 lays_as old new cs ds e f = rw (← e) f
+
+-- ---- contents that are written in a loop, and the room for the next
+
+pub next_of : {X : Type 0} (f : X → Aligned) (xs : List X) (i : ℕ) (d : X) → i < length xs → map f (take (i + 1) xs) ≡ map f (take i xs) ++ f (get_or xs i d) ∷ []
+next_of f xs i d h = ap (map f) (take_more xs i d h) ∙ map-append f (take i xs) (get_or xs i d ∷ [])
+
+-- where the next contents end
+pub end_next : {X : Type 0} (f : X → Aligned) (xs : List X) (i at end : ℕ) (d : X) → i < length xs → end ≡ end_of_aligned at (map f (take i xs))
+    → next_multiple_of end (f (get_or xs i d)).align + length (f (get_or xs i d)).bytes ≡ end_of_aligned at (map f (take (i + 1) xs))
+unfolding end_of_aligned
+end_next f xs i at end d h n = ap (λ p. end_behind p (f (get_or xs i d))) n ∙ sym (ap (end_of_aligned at) (next_of f xs i d h) ∙ end_of_aligned-append at (map f (take i xs)) (f (get_or xs i d) ∷ []))
+
+front_within : {X : Type 0} (f : X → Aligned) (xs : List X) (k at : ℕ) → end_of_aligned at (map f (take k xs)) ≤ end_of_aligned at (map f xs)
+front_within f xs k at =
+    let whole : map f xs ≡ map f (take k xs) ++ map f (drop k xs) = ap (map f) (sym (take-append-drop k xs)) ∙ map-append f (take k xs) (drop k xs) in
+    omega (arith, ap (end_of_aligned at) whole, end_of_aligned-append at (map f (take k xs)) (map f (drop k xs)), end_of_aligned-le (end_of_aligned at (map f (take k xs))) (map f (drop k xs)))
+
+-- the next contents have room
+pub bytes_room : {X : Type 0} (f : X → Aligned) (xs : List X) (i at end n : ℕ) (d : X) → i < length xs → end ≡ end_of_aligned at (map f (take i xs)) → end_of_aligned at (map f xs) ≤ n
+    → next_multiple_of end (f (get_or xs i d)).align + length (f (get_or xs i d)).bytes ≤ n
+bytes_room f xs i at end n d h e room = omega (arith, end_next f xs i at end d h e, front_within f xs (i + 1) at)
+
+pub padding_room : {X : Type 0} (f : X → Aligned) (xs : List X) (i at end n : ℕ) (d : X) → i < length xs → end ≡ end_of_aligned at (map f (take i xs)) → end_of_aligned at (map f xs) ≤ n
+    → next_multiple_of end (f (get_or xs i d)).align ≤ n
+padding_room f xs i at end n d h e room = omega (arith, bytes_room f xs i at end n d h e room)
+
+-- what was written has room
+pub front_room : {X : Type 0} (f : X → Aligned) (xs : List X) (i at end n : ℕ) → end ≡ end_of_aligned at (map f (take i xs)) → end_of_aligned at (map f xs) ≤ n → end ≤ n
+front_room f xs i at end n e room = omega (arith, front_within f xs i at)

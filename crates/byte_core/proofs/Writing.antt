@@ -1,12 +1,12 @@
 -- What was written so far, before what is still to be written.
 use Rattle.std.proofs.Common.{◌≡◌, ℕ, zero, suc, ◌+◌, ◌-◌, ◌*◌, ◌%◌, ◌/◌, ◌^◌, ◌<◌, ◌≤◌, List, [], ◌∷◌, ◌++◌, length, take, drop, get_or, refl, ap, sym, ◌∙◌, append_assoc, append-nil, arith, length-append, lit<, reverse}
-use Rattle.std.proofs.lemmas.List.{drop_all, take-append-drop, drop-set-lt, length-take, take_at, drop_at, take_more, drop_more, reverse-append, take-append-le}
+use Rattle.std.proofs.lemmas.List.{drop_all, take-append-drop, drop-set-lt, length-take, take_at, drop_at, take_more, drop_more, reverse-append, take_all}
 use Rattle.std.proofs.Math.Seq.{take-suc-set}
 use Rattle.std.proofs.Math.ListN.{set}
 use Rattle.std.proofs.Math.Nat.{pow-le-pow_right}
 use Rattle.byte_core.specs.declared.fields.Field.{Field}
 use Rattle.byte_core.specs.Number.{little_bytes, little_number, number_at, bytes_at}
-use Rattle.byte_core.specs.Fields.{field_bytes}
+use Rattle.byte_core.specs.Fields.{field_bytes, widths}
 use Rattle.byte_core.proofs.Numbers.{length-little_bytes, little_number-little_bytes}
 
 -- ---- one byte of a number after the other
@@ -16,15 +16,22 @@ unfolding little_bytes
 little_bytes-step zero n h = absurd (omega arith)
 little_bytes-step (suc w) n h = let e : suc w - 1 ≡ w = omega arith in rw e refl
 
-pub written_more : (out new : List ℕ) (w i n : ℕ) → i < w → new ≡ out ++ (n % 256) ∷ [] → new ++ little_bytes (w - (i + 1)) (n / 256) ≡ out ++ little_bytes (w - i) n
-written_more out new w i n h e =
+pub number_more : (out : List ℕ) (at w i n : ℕ) (all : List ℕ) → i < w → at + w ≤ length out
+    → take (at + i) out ++ little_bytes (w - i) n ≡ all
+    → take (at + (i + 1)) (set out (at + i) (n % 256)) ++ little_bytes (w - (i + 1)) (n / 256) ≡ all
+number_more out at w i n all h room e =
+    let q : at + i < length out = omega arith in
+    let s : at + (i + 1) ≡ suc (at + i) = omega arith in
     let d : w - (i + 1) ≡ (w - i) - 1 = omega arith in
     let p : 0 < w - i = omega arith in
-    rw (e, d, append_assoc) (ap (λ rest. out ++ rest) (sym (little_bytes-step (w - i) n p)))
+    rw (s, take-suc-set, d, append_assoc) (ap (λ rest. take (at + i) out ++ rest) (sym (little_bytes-step (w - i) n p)) ∙ e)
 
-pub written_all : (out : List ℕ) (w i n : ℕ) → w ≤ i → out ++ little_bytes (w - i) n ≡ out
+pub number_all : (out : List ℕ) (at w i n : ℕ) → w ≤ i → i ≤ w → take (at + i) out ++ little_bytes (w - i) n ≡ take (at + w) out
 unfolding little_bytes
-written_all out w i n h = let e : w - i ≡ 0 = omega arith in rw (e, append-nil) refl
+number_all out at w i n h g =
+    let z : w - i ≡ 0 = omega arith in
+    let s : at + i ≡ at + w = omega arith in
+    rw (z, s, append-nil) refl
 
 -- ---- one field after the other
 
@@ -36,6 +43,9 @@ fields_more fs i d out new all h n a = rw (n, append_assoc) (ap (λ rest. out ++
 pub fields_all : (fs : List Field) (i : ℕ) (out : List ℕ) → length fs ≤ i → out ++ field_bytes (drop i fs) ≡ out
 unfolding field_bytes
 fields_all fs i out h = rw (drop_all, append-nil) refl
+
+pub widths_more : (fs : List Field) (i : ℕ) (d : Field) → i < length fs → widths (drop i fs) ≡ (get_or fs i d).width + widths (drop (i + 1) fs)
+widths_more fs i d h = ap widths (drop_more fs i d h)
 
 -- ---- in place
 
@@ -102,9 +112,8 @@ pub big_more : (bs : List ℕ) (i : ℕ) → i < length bs → little_number (re
 unfolding little_number
 big_more bs i h = rw (take_more bs i 0 h, reverse-append) refl
 
--- ---- what was there stays in front
+-- ---- a slice that is filled
 
-pub front_more : (first now new more : List ℕ) → take (length first) now ≡ first → new ≡ now ++ more → take (length first) new ≡ first
-front_more first now new more e n =
-    let within : length first ≤ length now = omega (arith, ap length e, length-take (length first) now) in
-    rw n (take-append-le (length first) now more within ∙ e)
+-- bytes that are filled to the end are all the bytes
+pub filled_whole : (out all : List ℕ) (end : ℕ) → take end out ≡ all → length out ≡ end → out ≡ all
+filled_whole out all end e h = sym (take_all end out (omega arith)) ∙ e

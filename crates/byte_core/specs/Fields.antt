@@ -12,6 +12,11 @@ field_bytes (f ∷ fs) = little_bytes f.width f.value ++ field_bytes fs
 abbrev pub FitsWidth : Field → Type 0
 FitsWidth f = f.value < 256 ^ f.width
 
+-- how many bytes the fields take
+abbrev pub widths : List Field → ℕ
+widths [] = 0
+widths (f ∷ fs) = f.width + widths fs
+
 -- where field k begins, counted from the first
 abbrev pub field_offset : List Field → ℕ → ℕ
 field_offset fs zero = 0
