@@ -9,7 +9,7 @@ use Rattle.objtool_run.specs.Ends.{Answers, AnswersFront, Ends}
 use Rattle.objtool_run.specs.declared.fault.Fault.{Fault}
 use Rattle.objtool_run.specs.declared.fault.Fault.TheVariants.{Refused, BadWords, ReadFailed, WriteFailed, OutOfMemory, NotUnderstood, TooLong, NotYet}
 use Rattle.objtool_run.specs.declared.words.Request.{Request}
-use Rattle.objtool_run.specs.declared.words.Request.TheVariants.{Build, Names, Ask}
+use Rattle.objtool_run.specs.declared.words.Request.TheVariants.{Build, Raw, Read, Names, Ask}
 use Rattle.objtool_run.proofs.Judging.{judges_output, judges_fault, valid_ends, not_long}
 
 -- words that name no request
@@ -162,17 +162,23 @@ of_code P NotYet h p = ((λ e. absurd (omega (arith, e))), (λ e. absurd (omega 
 
 explained_unread : (r : Request) (input : Option (List ℕ)) → Explains r input NotUnderstood → IsUnread r input
 explained_unread Build input h = h
+explained_unread Raw input h = h
+explained_unread Read input h = h.0
 explained_unread (Names machine number) input h = absurd h
 explained_unread (Ask q) input h = h
 
 explained_other : (r : Request) (input : Option (List ℕ)) → Explains r input NotYet → IsOther r input
 explained_other Build input h = h
+explained_other Raw input h = h
+explained_other Read input h = h.0
 explained_other (Names machine number) input h = absurd h
 explained_other (Ask q) input h = h
 
 -- a refusal that is told is one that the request's input has
 pub explained_refused : (r : Request) (input : Option (List ℕ)) (text : String Global) → Explains r input (Refused text) → IsRefused r input (string_bytes text)
 explained_refused Build input text h = h
+explained_refused Raw input text h = h
+explained_refused Read input text h = h.1
 explained_refused (Names machine number) input text h = absurd h
 explained_refused (Ask q) input text h = h
 
@@ -208,6 +214,8 @@ ends_fault line r old new fault is of explained taken reading too_long long at_m
 
 taken_kept : (r : Request) (mid new : Outside) → new.input ≡ mid.input → IsTaken r mid → IsTaken r new
 taken_kept Build mid new e h = rw e h
+taken_kept Raw mid new e h = rw e h
+taken_kept Read mid new e h = rw e h
 taken_kept (Names machine number) mid new e h = tt
 taken_kept (Ask q) mid new e h = rw e h
 

@@ -4,9 +4,10 @@ use Rattle.serde_json.specs.Data.{Data}
 use Rattle.image_build.specs.Built.{BuildPart, BuildRefusal, build_cause}
 use Rattle.objtool_run.specs.Fault.{code_of}
 use Rattle.objtool_run.specs.Script.{HasJson, HasNoJson, HasOtherForm, StandsFor}
+use Rattle.objtool_run.specs.Reading.{IsImage, HasNoImage, IsImageLine, IsUnreadImage, JudgesRead}
 use Rattle.objtool_run.specs.Run.{IsOutput, IsLong, Explains, Judges, JudgesBuild, IsAnswerable, IsJudged}
 use Rattle.objtool_run.specs.declared.words.Request.{Request}
-use Rattle.objtool_run.specs.declared.words.Request.TheVariants.{Build, Names, Ask}
+use Rattle.objtool_run.specs.declared.words.Request.TheVariants.{Build, Raw, Read, Names, Ask}
 use Rattle.objtool_run.specs.declared.words.Query.{Query}
 use Rattle.json_form.specs.Reply.{Reply, told, refusal}
 use Rattle.objtool_run.specs.Query.{reply_of, IsTold, IsRefusedQuery, IsUnreadQuery, JudgesQuery, IsToldLine, IsRefusalLine}
@@ -95,6 +96,14 @@ judges_unread_query q input none = record {
   told = λ d t json reply. let z : Some (told t) ≡ None = sym reply ∙ none d json in absurd (cc);
 }
 
+-- -- images
+
+judges_image : (input : List ℕ) (status : ℕ) → IsImage input → (status ≡ 0) ⊎ (status ≡ 4) → JudgesRead input status
+judges_image input status image ends = record { unread = λ none. absurd (none image); read = λ also. ends }
+
+judges_no_image : (input : List ℕ) → HasNoImage input → JudgesRead input 1
+judges_no_image input none = record { unread = λ h. refl; read = λ image. absurd (none image) }
+
 if_known : (P Q : List ℕ → Type 0) → ((input : List ℕ) → P input → Q input) → (o : Option (List ℕ)) → IfSome o P → IfSome o Q
 if_known P Q f None h = tt
 if_known P Q f (Some x) h = f x h
@@ -105,6 +114,8 @@ judges_output (Names machine number) input text status h ends = ends
 judges_output (Ask q) input text status h ends =
     if_known (λ known. IsTold q known text) (λ known. JudgesQuery q known status) (λ known a. let is = told_is text (reply_of q a.value) a.line_is in judges_told q known a.value is.0 status a.json is.1 ends) input h
 judges_output Build input text status h ends = if_known _ (λ known. JudgesBuild known status) (λ known a. judges_valid known a.parts status a.stands a.valid ends) input h
+judges_output Raw input text status h ends = if_known _ (λ known. JudgesBuild known status) (λ known a. judges_valid known a.parts status a.stands a.valid ends) input h
+judges_output Read input text status h ends = if_known (λ known. IsImageLine known text) (λ known. JudgesRead known status) (λ known a. judges_image known status (record { image = a.image; reads = a.reads }) ends) input h
 
 -- a request with a fault that its input has
 pub judges_fault : (r : Request) (input : Option (List ℕ)) (fault : Fault) → IsJudged fault → Explains r input fault → Judges r input (code_of fault)
@@ -134,6 +145,22 @@ judges_fault Build input OutOfMemory j h = absurd j
 judges_fault Build input NotUnderstood j h = if_known HasNoJson (λ known. JudgesBuild known 6) judges_unread input h
 judges_fault Build input TooLong j h = absurd j
 judges_fault Build input NotYet j h = if_known HasOtherForm (λ known. JudgesBuild known 8) judges_other input h
+judges_fault Raw input (Refused text) j h = if_known _ (λ known. JudgesBuild known 1) (λ known a. judges_refused known a.parts a.refusal a.stands a.refused) input h
+judges_fault Raw input BadWords j h = absurd j
+judges_fault Raw input ReadFailed j h = absurd j
+judges_fault Raw input WriteFailed j h = absurd j
+judges_fault Raw input OutOfMemory j h = absurd j
+judges_fault Raw input NotUnderstood j h = if_known HasNoJson (λ known. JudgesBuild known 6) judges_unread input h
+judges_fault Raw input TooLong j h = absurd j
+judges_fault Raw input NotYet j h = if_known HasOtherForm (λ known. JudgesBuild known 8) judges_other input h
+judges_fault Read input (Refused text) j h = if_known (λ known. IsUnreadImage known (string_bytes text)) (λ known. JudgesRead known 1) (λ known a. judges_no_image known a.no_image) input h.1
+judges_fault Read input BadWords j h = absurd j
+judges_fault Read input ReadFailed j h = absurd j
+judges_fault Read input WriteFailed j h = absurd j
+judges_fault Read input OutOfMemory j h = absurd j
+judges_fault Read input NotUnderstood j h = absurd h.0
+judges_fault Read input TooLong j h = absurd j
+judges_fault Read input NotYet j h = absurd h.0
 
 -- what nothing refuses is done or fails at its writing
 pub valid_ends : (r : Request) (input : Option (List ℕ)) (status : ℕ) → IsAnswerable r input → Judges r input status → (status ≡ 0) ⊎ (status ≡ 4)
@@ -142,6 +169,10 @@ valid_ends (Ask q) None status v j = absurd v
 valid_ends (Ask q) (Some input) status v j = j.told v.0.value v.0.text v.0.json v.0.reply
 valid_ends Build None status v j = absurd v
 valid_ends Build (Some input) status v j = j.valid v.0.parts v.0.stands v.0.valid
+valid_ends Raw None status v j = absurd v
+valid_ends Raw (Some input) status v j = j.valid v.0.parts v.0.stands v.0.valid
+valid_ends Read None status v j = absurd v
+valid_ends Read (Some input) status v j = j.read v.0
 
 pub not_long : (r : Request) (input : Option (List ℕ)) → IsAnswerable r input → IsLong r input → ⊥
 not_long (Names machine number) input v h = h
@@ -149,3 +180,7 @@ not_long (Ask q) None v h = v
 not_long (Ask q) (Some input) v h = let low = v.1 in omega (arith, h)
 not_long Build None v h = v
 not_long Build (Some input) v h = let low = v.1 in omega (arith, h)
+not_long Raw None v h = v
+not_long Raw (Some input) v h = let low = v.1 in omega (arith, h)
+not_long Read None v h = v
+not_long Read (Some input) v h = let low = v.1 in omega (arith, h)

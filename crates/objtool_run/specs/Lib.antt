@@ -6,5 +6,6 @@ pub mod TargetForm
 pub mod DefinitionForm
 pub mod Script
 pub mod Query
+pub mod Reading
 pub mod Run
 pub mod Ends

@@ -9,8 +9,9 @@ use Rattle.image_build.specs.Built.{BuildPart, Built, BuildRefusal, TellsBuild, 
 use Rattle.image_build.specs.Texts.{build_text}
 use Rattle.objtool_run.specs.Fault.{line}
 use Rattle.objtool_run.specs.declared.words.Request.{Request}
-use Rattle.objtool_run.specs.declared.words.Request.TheVariants.{Build, Names, Ask}
+use Rattle.objtool_run.specs.declared.words.Request.TheVariants.{Build, Raw, Read, Names, Ask}
 use Rattle.objtool_run.specs.Query.{IsTold, IsRefusedQuery, IsUnreadQuery, ExplainsQuery, JudgesQuery, IsAnswered}
+use Rattle.objtool_run.specs.Reading.{IsImageLine, IsUnreadImage, IsImage, ExplainsRead, IsFileFault, JudgesRead}
 use Rattle.goblin_reloc_names.specs.Names.{relocation_name}
 use Rattle.objtool_run.specs.Script.{HasNoJson, HasOtherForm, StandsFor}
 use Rattle.objtool_run.specs.declared.fault.Fault.{Fault}
@@ -33,6 +34,14 @@ pub record IsAnswer (input text : List ℕ) : Type 0 where
   pub are_bytes : All (λ x. x < 256) bytes
   pub built : Built parts bytes
   pub text_is : text ≡ line_of bytes
+
+-- the bytes are what the input's parts build, and nothing refuses these
+pub record IsFile (input bytes : List ℕ) : Type 0 where
+  pub parts : List BuildPart
+  pub stands : StandsFor input parts
+  pub valid : build_cause parts ≡ None
+  pub are_bytes : All (λ x. x < 256) bytes
+  pub built : Built parts bytes
 
 -- the text names the part, the place and the first cause that refuse the input's parts
 pub record IsRefusal (input text : List ℕ) : Type 0 where
@@ -107,30 +116,40 @@ pub record JudgesBuild (input : List ℕ) (status : ℕ) : Type 0 where
 -- the output that a request asks for
 abbrev pub IsOutput : Request → Option (List ℕ) → List ℕ → Type 0
 IsOutput Build input text = IfSome input (λ known. IsAnswer known text)
+IsOutput Raw input text = IfSome input (λ known. IsFile known text)
+IsOutput Read input text = IfSome input (λ known. IsImageLine known text)
 IsOutput (Names machine number) input text = text ≡ line (relocation_name number machine)
 IsOutput (Ask query) input text = IfSome input (λ known. IsTold query known text)
 
 -- the text is the refusal that the request's input has
 abbrev pub IsRefused : Request → Option (List ℕ) → List ℕ → Type 0
 IsRefused Build input text = IfSome input (λ known. IsRefusal known text)
+IsRefused Raw input text = IfSome input (λ known. IsRefusal known text)
+IsRefused Read input text = IfSome input (λ known. IsUnreadImage known text)
 IsRefused (Names machine number) input text = ⊥
 IsRefused (Ask query) input text = IfSome input (λ known. IsRefusedQuery query known text)
 
 -- the input has no reading, or none of the request's form
 abbrev pub IsUnread : Request → Option (List ℕ) → Type 0
 IsUnread Build input = IfSome input HasNoJson
+IsUnread Raw input = IfSome input HasNoJson
+IsUnread Read input = ⊥
 IsUnread (Names machine number) input = ⊥
 IsUnread (Ask query) input = IfSome input (λ known. IsUnreadQuery query known)
 
 -- the input has a reading of another form than is built so far
 abbrev pub IsOther : Request → Option (List ℕ) → Type 0
 IsOther Build input = IfSome input HasOtherForm
+IsOther Raw input = IfSome input HasOtherForm
+IsOther Read input = ⊥
 IsOther (Names machine number) input = ⊥
 IsOther (Ask query) input = IfSome input (λ known. ⊥)
 
 -- the input is longer than its limit
 abbrev pub IsLong : Request → Option (List ℕ) → Type 0
 IsLong Build input = IfSome input (λ known. input_limit < length known)
+IsLong Raw input = IfSome input (λ known. input_limit < length known)
+IsLong Read input = IfSome input (λ known. input_limit < length known)
 IsLong (Names machine number) input = ⊥
 IsLong (Ask query) input = IfSome input (λ known. input_limit < length known)
 
@@ -148,18 +167,24 @@ IsPlainFault NotYet = ⊥
 -- what a fault says of the input of a request
 abbrev pub Explains : Request → Option (List ℕ) → Fault → Type 0
 Explains Build input fault = IfSome input (λ known. ExplainsBuild known fault)
+Explains Raw input fault = IfSome input (λ known. ExplainsBuild known fault)
+Explains Read input fault = IsFileFault fault × IfSome input (λ known. ExplainsRead known fault)
 Explains (Names machine number) input fault = IsPlainFault fault
 Explains (Ask query) input fault = IfSome input (λ known. ExplainsQuery query known fault)
 
 -- the input of the request, where it has one, was taken to its end
 abbrev pub IsTaken : Request → Outside → Type 0
 IsTaken Build now = IsAtEnd now
+IsTaken Raw now = IsAtEnd now
+IsTaken Read now = IsAtEnd now
 IsTaken (Names machine number) now = Unit {0}
 IsTaken (Ask query) now = IsAtEnd now
 
 -- how a request may end, apart from failed reads, want of memory and the limit of its input's length
 abbrev pub Judges : Request → Option (List ℕ) → ℕ → Type 0
 Judges Build input status = IfSome input (λ known. JudgesBuild known status)
+Judges Raw input status = IfSome input (λ known. JudgesBuild known status)
+Judges Read input status = IfSome input (λ known. JudgesRead known status)
 Judges (Names machine number) input status = (status ≡ 0) ⊎ (status ≡ 4)
 Judges (Ask query) input status = IfSome input (λ known. JudgesQuery query known status)
 
@@ -173,6 +198,10 @@ pub record IsValid (input : List ℕ) : Type 0 where
 abbrev pub IsAnswerable : Request → Option (List ℕ) → Type 0
 IsAnswerable Build None = ⊥
 IsAnswerable Build (Some input) = IsValid input × (length input ≤ input_limit)
+IsAnswerable Raw None = ⊥
+IsAnswerable Raw (Some input) = IsValid input × (length input ≤ input_limit)
+IsAnswerable Read None = ⊥
+IsAnswerable Read (Some input) = IsImage input × (length input ≤ input_limit)
 IsAnswerable (Names machine number) input = Unit {0}
 IsAnswerable (Ask query) None = ⊥
 IsAnswerable (Ask query) (Some input) = IsAnswered query input × (length input ≤ input_limit)

@@ -4,7 +4,7 @@ use Rattle.std.specs.List.{list_all}
 use Rattle.std.specs.Str.{bytes_eq}
 use Rattle.std.specs.Str.Parse.{digits_value}
 use Rattle.objtool_run.specs.declared.words.Request.{Request}
-use Rattle.objtool_run.specs.declared.words.Request.TheVariants.{Build, Names, Ask}
+use Rattle.objtool_run.specs.declared.words.Request.TheVariants.{Build, Raw, Read, Names, Ask}
 use Rattle.objtool_run.specs.declared.words.Query.TheVariants.{Declarations, Signed, Clr, LoadConfig, Tls}
 
 -- a decimal digit
@@ -29,6 +29,7 @@ names_of _ _ = None
 unfoldable pub request_named : List ℕ → Option Request
 request_named command =
     if bytes_eq command (codes "build") then Some Build
+    else if bytes_eq command (codes "read") then Some Read
     else if bytes_eq command (codes "declarations") then Some (Ask Declarations)
     else if bytes_eq command (codes "signed") then Some (Ask Signed)
     else if bytes_eq command (codes "clr") then Some (Ask Clr)
@@ -36,8 +37,9 @@ request_named command =
     else if bytes_eq command (codes "tls") then Some (Ask Tls)
     else None
 
--- the request that the words name, if any: a command alone, or `names` with a machine's number and a relocation's
+-- the request that the words name, if any: a command alone, `build --raw`, or `names` with a machine's number and a relocation's
 abbrev pub request_of : List (List ℕ) → Option Request
 request_of (command ∷ []) = request_named command
+request_of (command ∷ option ∷ []) = if bytes_eq command (codes "build") && bytes_eq option (codes "--raw") then Some Raw else None
 request_of (command ∷ machine ∷ number ∷ []) = if bytes_eq command (codes "names") then names_of (number_up_to 65535 machine) (number_up_to 4294967295 number) else None
 request_of _ = None

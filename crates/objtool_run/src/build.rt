@@ -1,10 +1,10 @@
-//! The command `build`: from the bytes of an input to the line of the output.
+//! The command `build`: from the bytes of an input to the file of its parts, and to its line.
 
 ghost use Rattle.std.specs.Prelude.{◌≡◌, ◌<◌, string_bytes, IfOk, IfErr};
 ghost use Rattle.std.specs.List.{All};
 ghost use Rattle.image_build.specs.Texts.{build_text};
 ghost use Rattle.objtool_run.specs.Fault.{line};
-ghost use Rattle.objtool_run.specs.Run.{IsAnswer, ExplainsBuild, IsOfInput, TellsRefusal, line_of};
+ghost use Rattle.objtool_run.specs.Run.{IsAnswer, IsFile, ExplainsBuild, IsOfInput, TellsRefusal, line_of};
 
 use crate::fault::Fault;
 use crate::script::part::read_parts;
@@ -13,8 +13,7 @@ use std::alloc::{AllocError, Global};
 
 /// The output for some bytes: their lower-case hexadecimal and a newline.
 fn line_of(alloc: Global, bytes: &[u8]) -> Result<Vec<u8>, AllocError>
-    ensures text { IfOk result (λ text. text.items ≡ line_of bytes.now) }
-    ensures are_bytes { All (λ x. x < 256) bytes.now }
+    ensures { IfOk result (λ text. text.items ≡ line_of bytes.now) }
 {
     let mut text = hex::encode(alloc, bytes)?.into_bytes();
     text.push(b'\n')?;
@@ -41,9 +40,9 @@ fn refused(alloc: Global, error: &BuildError) -> Fault
     }
 }
 
-/// The line of the file that an input's parts build.
-pub fn answer(alloc: Global, input: &[u8]) -> Result<Vec<u8>, Fault>
-    ensures ok { IfOk result (λ text. IsAnswer input.now text.items) }
+/// The file that an input's parts build.
+pub fn built_file(alloc: Global, input: &[u8]) -> Result<Vec<u8>, Fault>
+    ensures ok { IfOk result (λ bytes. IsFile input.now bytes.items) }
     ensures explained { IfErr result (λ fault. ExplainsBuild input.now fault) }
     ensures of_input { IfErr result (λ fault. IsOfInput fault) }
 {
@@ -51,9 +50,29 @@ pub fn answer(alloc: Global, input: &[u8]) -> Result<Vec<u8>, Fault>
         Ok(parts) => parts,
         Err(fault) => return Err(fault),
     };
-    let bytes = match build_image(alloc, &parts) {
+    match build_image(alloc, &parts) {
+        Ok(bytes) => {
+            are_bytes(&bytes);
+            Ok(bytes)
+        }
+        Err(error) => Err(refused(alloc, &error)),
+    }
+}
+
+// Every list of bytes that the program has is one of numbers below 256.
+fn are_bytes(bytes: &[u8])
+    ensures { All (λ x. x < 256) bytes.now }
+{}
+
+/// The line of the file that an input's parts build.
+pub fn answer(alloc: Global, input: &[u8]) -> Result<Vec<u8>, Fault>
+    ensures ok { IfOk result (λ text. IsAnswer input.now text.items) }
+    ensures explained { IfErr result (λ fault. ExplainsBuild input.now fault) }
+    ensures of_input { IfErr result (λ fault. IsOfInput fault) }
+{
+    let bytes = match built_file(alloc, input) {
         Ok(bytes) => bytes,
-        Err(error) => return Err(refused(alloc, &error)),
+        Err(fault) => return Err(fault),
     };
     match line_of(alloc, &bytes) {
         Ok(text) => Ok(text),

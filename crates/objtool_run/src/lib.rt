@@ -11,13 +11,15 @@ mod names;
 mod output;
 mod program;
 mod query;
+mod reading;
 mod script;
 mod words;
 
-pub use build::answer;
+pub use build::{answer, built_file};
 pub use fault::Fault;
 pub use input::{INPUT_LIMIT, InputError, read_input};
 pub use json_form::FormError;
 pub use output::{write_fault_text, write_output};
 pub use program::run;
+pub use reading::image_line;
 pub use script::command::commands_of;

@@ -8,12 +8,13 @@ ghost use Rattle.objtool_run.specs.Fault.{fixed_text};
 ghost use Rattle.objtool_run.specs.Run.{Explains, IsOutput, IsTaken, IsLong, IsJudged, IsOfResponse};
 ghost use Rattle.objtool_run.specs.Ends.{Ends, Refuses, Tells, status_of};
 
-use crate::build::answer;
+use crate::build::{answer, built_file};
 use crate::fault::Fault;
 use crate::input::{INPUT_LIMIT, read_input};
 use crate::names::name_line;
 use crate::output::{write_fault_text, write_output};
 use crate::query::ask;
+use crate::reading::image_line;
 use crate::words::{Request, request_of};
 use byte_core::Host;
 use std::alloc::Global;
@@ -39,6 +40,20 @@ fn respond<H: Host>(alloc: Global, request: Request, host: &mut H) -> Result<Vec
                 Err(error) => return Err(Fault::from(error)),
             };
             answer(alloc, &input)
+        }
+        Request::Raw => {
+            let input = match read_input(alloc, host) {
+                Ok(input) => input,
+                Err(error) => return Err(Fault::from(error)),
+            };
+            built_file(alloc, &input)
+        }
+        Request::Read => {
+            let input = match read_input(alloc, host) {
+                Ok(input) => input,
+                Err(error) => return Err(Fault::from(error)),
+            };
+            image_line(alloc, &input)
         }
         Request::Ask(query) => {
             let input = match read_input(alloc, host) {

@@ -68,7 +68,7 @@ fn answered(alloc: Global, answer: Result<Vec<u8>, Unanswered>) -> Result<Vec<u8
 }
 
 // A text with a newline.
-fn ended(mut text: Vec<u8>) -> Result<Vec<u8>, Fault>
+pub(crate) fn ended(mut text: Vec<u8>) -> Result<Vec<u8>, Fault>
     ensures ok { IfOk result (λ ended. ended.items ≡ line text.items) }
     ensures fault { IfErr result (λ fault. fault ≡ OutOfMemory) }
 {

@@ -9,6 +9,10 @@ ghost use Rattle.objtool_run.specs.Words.{is_digit, is_number, number_up_to, nam
 pub(crate) enum Request {
     /// The file of the input's parts, as a line of hexadecimal.
     Build,
+    /// The file of the input's parts, as it is.
+    Raw,
+    /// What the input is read as, as a line of JSON.
+    Read,
     /// The name of a relocation: the machine as in an ELF header, and the relocation's number.
     Names { machine: u16, number: u32 },
     /// What a library answers to the input's JSON value.
@@ -36,6 +40,9 @@ pub(crate) fn request_of(words: &[String]) -> Option<Request>
 {
     match words {
         [word] => request_named(word.as_str()),
+        [word, option] if word.as_str() == "build" && option.as_str() == "--raw" => {
+            Some(Request::Raw)
+        }
         [word, machine, number] if word.as_str() == "names" => {
             names_of(machine.as_str(), number.as_str())
         }
@@ -50,6 +57,7 @@ fn request_named(word: &str) -> Option<Request>
 {
     match word {
         "build" => Some(Request::Build),
+        "read" => Some(Request::Read),
         "declarations" => Some(Request::Ask(Query::Declarations)),
         "signed" => Some(Request::Ask(Query::Signed)),
         "clr" => Some(Request::Ask(Query::Clr)),

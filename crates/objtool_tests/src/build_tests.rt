@@ -13,7 +13,7 @@ pub(crate) const NONE: FailingCalls<'static> = FailingCalls {
 };
 
 /// One exported function `main` of one byte.
-const MAIN: &str =
+pub(crate) const MAIN: &str =
     "[{\"name\":\"a.o\",\"arch\":\"x86_64\",\"format\":\"elf\",\"commands\":[{\"op\":\"declare_function\",\"name\":\"main\",\"linkage\":\"Export\"},{\"op\":\"define_function\",\"id\":0,\"bytes\":\"c3\"}]}]";
 
 /// The words of the command line.

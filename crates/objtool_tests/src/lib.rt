@@ -18,6 +18,8 @@ mod pe_tests;
 #[cfg(test)]
 mod query_tests;
 #[cfg(test)]
+mod read_tests;
+#[cfg(test)]
 mod target_files;
 #[cfg(test)]
 mod target_tests;

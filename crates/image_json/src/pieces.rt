@@ -1,0 +1,54 @@
+//! Pieces of JSON texts: numbers, and bytes in hexadecimal.
+
+ghost use Rattle.std.specs.Prelude.{◌≡◌, ◌<◌, ◌++◌, OnOk};
+ghost use Rattle.std.specs.List.{All};
+ghost use Rattle.hex.specs.Hex.{encode_lower};
+ghost use Rattle.serde_json.specs.Written.{compact_text};
+ghost use Rattle.json_form.specs.Written.{number_value};
+ghost use Rattle.image_json.specs.ElfJson.{hex_value, integer_value};
+
+use std::alloc::AllocError;
+
+/// Appends a number in decimal digits.
+pub(crate) fn push_number(out: &mut Vec<u8>, number: u64) -> Result<(), AllocError>
+    ensures { OnOk result (out.new.items ≡ out.old.items ++ compact_text (number_value number)) }
+{
+    let mut buffer = itoa::Buffer::new();
+    out.extend_from_slice(buffer.format(number).as_bytes())?;
+    Ok(())
+}
+
+/// Appends a number that may be below zero.
+pub(crate) fn push_integer(out: &mut Vec<u8>, number: i64) -> Result<(), AllocError>
+    ensures { OnOk result (out.new.items ≡ out.old.items ++ compact_text (integer_value number)) }
+{
+    let mut buffer = itoa::Buffer::new();
+    out.extend_from_slice(buffer.format(number).as_bytes())?;
+    Ok(())
+}
+
+/// Appends bytes as a text of two lower-case hexadecimal digits each.
+pub(crate) fn push_hex(out: &mut Vec<u8>, bytes: &[u8]) -> Result<(), AllocError>
+    ensures { OnOk result (out.new.items ≡ out.old.items ++ compact_text (hex_value bytes.now)) }
+{
+    out.push(b'"')?;
+    push_digits(out, bytes)?;
+    out.push(b'"')?;
+    Ok(())
+}
+
+/// Appends the digits of bytes.
+fn push_digits(out: &mut Vec<u8>, bytes: &[u8]) -> Result<(), AllocError>
+    ensures digits { OnOk result (out.new.items ≡ out.old.items ++ encode_lower bytes.now) }
+    ensures are_bytes { All (λ x. x < 256) bytes.now }
+{
+    let start = out.len();
+    let Some(end) = start.checked_add(2 * bytes.len()) else {
+        return Err(AllocError);
+    };
+    out.resize(end, 0)?;
+    match hex::encode_to_slice(bytes, &mut out[start..]) {
+        Ok(()) => Ok(()),
+        Err(_) => Err(AllocError),
+    }
+}
