@@ -2,19 +2,19 @@
 use Rattle.std.proofs.Common.{◌≡◌, ◌≢◌, ℕ, zero, suc, ◌+◌, ◌-◌, ◌≤◌, ◌<◌, List, [], ◌∷◌, ◌++◌, length, map, refl, ap, sym, ◌∙◌, arith, append-nil, append_assoc}
 use Rattle.std.proofs.Math.ListN.{set}
 use Rattle.std.specs.List.{range_with_len, flat_map}
-use Rattle.std.proofs.lemmas.List.{map-append}
 use Rattle.std.proofs.lemmas.List.FromFn.{map-range_with_len_more}
 
 -- one row more
-pub row_more : {X Y : Type 0} (view : X → Y) (f : ℕ → Y) (old : List Y) (xs : List X) (x : X) (a n m j : ℕ) → map view xs ≡ old ++ map f (range_with_len a n) → view x ≡ f j → a + n ≡ j → m ≡ n + 1
-    → map view (xs ++ x ∷ []) ≡ old ++ map f (range_with_len a m)
-row_more view f old xs x a n m j h e place count = rw (count, map-append, h, e, map-range_with_len_more f a n j place) append_assoc
+pub row_more : {Y : Type 0} (f : ℕ → Y) (old ys : List Y) (y : Y) (a n m j : ℕ) → ys ≡ old ++ map f (range_with_len a n) → y ≡ f j → a + n ≡ j → m ≡ n + 1
+    → ys ++ y ∷ [] ≡ old ++ map f (range_with_len a m)
+row_more f old ys y a n m j h e place count =
+    rw (count, h, e, map-range_with_len_more f a n j place) (append_assoc old (map f (range_with_len a n)) (f j ∷ []))
 
 pub range_more : {Y : Type 0} (f : ℕ → List Y) (a n : ℕ) → flat_map f (range_with_len a (suc n)) ≡ flat_map f (range_with_len a n) ++ f (a + n)
 range_more f a zero = let place : a + 0 ≡ a = omega arith in rw (place, append-nil) refl
 range_more f a (suc n) =
     let place : a + 1 + n ≡ a + suc n = omega arith in
-    rw (range_more f (a + 1) n, place) (sym append_assoc)
+    rw (range_more f (a + 1) n, place) (sym (append_assoc (f a) (flat_map f (range_with_len (a + 1) n)) (f (a + suc n))))
 
 pub same_rows : {Y : Type 0} (f g : ℕ → Y) (a n : ℕ) → ((k : ℕ) → f k ≡ g k) → map f (range_with_len a n) ≡ map g (range_with_len a n)
 same_rows f g a zero h = refl

@@ -115,10 +115,27 @@ fn append_relocations<'a>(
     ensures { OnOk result (sections.new ≡ map (section_data file.now) (row_numbers file.now)) }
 {
     for j in 1..file.count() {
-        let row = file.section_row(j);
-        if row.sh_type == SHT_RELA {
-            sections[row.info as usize - 1].append_records(file, j)?;
-        }
+        append_of_section(file, sections, j)?;
     }
+    Ok(())
+}
+
+// Appends the records of section `j`, where it is a relocation section.
+fn append_of_section<'a>(
+    file: &ElfFile<'a>,
+    sections: &mut [ElfSection<'a>],
+    j: usize,
+) -> Result<(), AllocError>
+    requires file { IsElf file.now }
+    requires behind_null { 1 ≤ j }
+    requires row { j < (header_of file.now).shnum }
+    requires before { sections.old ≡ map (section_before file.now j) (row_numbers file.now) }
+    ensures { OnOk result (sections.new ≡ map (section_before file.now (j + 1)) (row_numbers file.now)) }
+{
+    let row = file.section_row(j);
+    if row.sh_type != SHT_RELA {
+        return Ok(());
+    }
+    sections[row.info as usize - 1].append_records(file, j)?;
     Ok(())
 }
