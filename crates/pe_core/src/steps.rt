@@ -5,7 +5,8 @@ ghost use Rattle.byte_core.specs.Number.{number_at, bytes_at};
 ghost use Rattle.pe_core.specs.Steps.{demand, number_or_short, within_or_short, field_at, address_width};
 
 use crate::pe_error::{Case, Error};
-use byte_core::le_at;
+
+pub use byte_core::{number_field, u8_field, u16_field, u32_field};
 
 /// Refuses the file in this way where the test doesn't hold.
 pub fn demand(holds: bool, case: Case) -> Result<(), Error>
@@ -42,40 +43,6 @@ pub fn address_width(is_64: bool) -> usize
     ensures { result ≡ address_width is_64 }
 {
     if is_64 { 8 } else { 4 }
-}
-
-/// The little-endian number of the `width` bytes at `at`, which lie in the file.
-pub fn number_field(bytes: &[u8], at: usize, width: usize) -> u64
-    requires width { width ≤ 8 }
-    requires inside { at + width ≤ length bytes.now }
-    ensures value { result ≡ number_at bytes.now at width }
-    ensures bound { result < 256 ^ width }
-{
-    le_at(bytes, at, width).unwrap()
-}
-
-/// The number of the 4 bytes at `at`, which lie in the file.
-pub fn u32_field(bytes: &[u8], at: usize) -> u32
-    requires { at + 4 ≤ length bytes.now }
-    ensures { result ≡ number_at bytes.now at 4 }
-{
-    number_field(bytes, at, 4) as u32
-}
-
-/// The number of the 2 bytes at `at`, which lie in the file.
-pub fn u16_field(bytes: &[u8], at: usize) -> u16
-    requires { at + 2 ≤ length bytes.now }
-    ensures { result ≡ number_at bytes.now at 2 }
-{
-    number_field(bytes, at, 2) as u16
-}
-
-/// The byte at `at`, which lies in the file.
-pub fn u8_field(bytes: &[u8], at: usize) -> u8
-    requires { at + 1 ≤ length bytes.now }
-    ensures { result ≡ number_at bytes.now at 1 }
-{
-    number_field(bytes, at, 1) as u8
 }
 
 /// The number of 4 bytes at `at`, None where they leave the file.

@@ -1,7 +1,7 @@
 use Rattle.std.proofs.Common.{◌≡◌, arith}
 use Rattle.byte_core.specs.Number.{number_at}
-use Rattle.pe_core.proofs.NumberBounds.{number_bound}
-use Rattle.pe_core.proofs.steps.number_field.Goals as goal
+use Rattle.byte_core.proofs.NumberBounds.{number_bound}
+use Rattle.byte_core.proofs.inside.number_field.Goals as goal
 
 pub returns-clause-bound : goal.returns-clause-bound
 returns-clause-bound c =

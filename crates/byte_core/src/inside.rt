@@ -1,0 +1,48 @@
+//! Little-endian numbers at places that lie in the bytes.
+
+ghost use Rattle.std.specs.Prelude.{◌≡◌, ◌≤◌, ◌+◌, ◌^◌, ◌<◌, length};
+ghost use Rattle.byte_core.specs.Number.{number_at};
+
+use crate::le_at;
+
+/// The number of the `width` bytes at `at`.
+pub fn number_field(bytes: &[u8], at: usize, width: usize) -> u64
+    requires width { width ≤ 8 }
+    requires inside { at + width ≤ length bytes.now }
+    ensures value { result ≡ number_at bytes.now at width }
+    ensures bound { result < 256 ^ width }
+{
+    le_at(bytes, at, width).unwrap()
+}
+
+/// The number of the 8 bytes at `at`.
+pub fn u64_field(bytes: &[u8], at: usize) -> u64
+    requires { at + 8 ≤ length bytes.now }
+    ensures { result ≡ number_at bytes.now at 8 }
+{
+    number_field(bytes, at, 8)
+}
+
+/// The number of the 4 bytes at `at`.
+pub fn u32_field(bytes: &[u8], at: usize) -> u32
+    requires { at + 4 ≤ length bytes.now }
+    ensures { result ≡ number_at bytes.now at 4 }
+{
+    number_field(bytes, at, 4) as u32
+}
+
+/// The number of the 2 bytes at `at`.
+pub fn u16_field(bytes: &[u8], at: usize) -> u16
+    requires { at + 2 ≤ length bytes.now }
+    ensures { result ≡ number_at bytes.now at 2 }
+{
+    number_field(bytes, at, 2) as u16
+}
+
+/// The byte at `at`.
+pub fn u8_field(bytes: &[u8], at: usize) -> u8
+    requires { at + 1 ≤ length bytes.now }
+    ensures { result ≡ number_at bytes.now at 1 }
+{
+    number_field(bytes, at, 1) as u8
+}

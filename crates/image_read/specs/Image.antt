@@ -1,0 +1,22 @@
+-- What a file is read as, whatever its format, and why it isn't read.
+use Rattle.std.specs.Prelude.{List, ℕ}
+use Rattle.image_read.specs.ElfImage.{ElfReads}
+use Rattle.image_read.specs.declared.image.Image.{Image}
+use Rattle.image_read.specs.declared.image.Image.TheVariants.{Elf, Mach, Fat}
+use Rattle.image_read.specs.declared.error.ReadError.{ReadError}
+use Rattle.image_read.specs.declared.error.ReadError.TheVariants.{NoReading, OutOfMemory}
+
+-- the file is read as this image; no Mach-O file and no fat file is read yet
+abbrev pub Reads : List ℕ → Image → Type 0
+Reads b (Elf image) = ElfReads b image
+Reads b (Mach image) = ⊥
+Reads b (Fat image) = ⊥
+
+-- no format reads the file
+pub record HasNoImage (b : List ℕ) : Type 0 where
+  pub none : (image : Image) → Reads b image → ⊥
+
+-- why there is no image: no format reads the file, or memory ran out
+abbrev pub ExplainsRead : List ℕ → ReadError → Type 0
+ExplainsRead b NoReading = HasNoImage b
+ExplainsRead b OutOfMemory = Unit {0}
