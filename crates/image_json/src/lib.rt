@@ -5,4 +5,4 @@
 mod elf_json;
 mod pieces;
 
-pub use elf_json::elf_text;
+pub use elf_json::{elf_text, image_text};
