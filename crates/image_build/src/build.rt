@@ -1,16 +1,18 @@
 //! From parts to the bytes of a file.
 
-ghost use Rattle.std.specs.Prelude.{◌≡◌, ◌∷◌, [], false, None, Some, map, IfOk, IfErr, OnOk, IsSomeAnd};
+ghost use Rattle.std.specs.Prelude.{◌≡◌, ◌∷◌, [], true, false, None, Some, map, IfOk, IfErr, OnOk, IsSomeAnd};
+ghost use Rattle.std.specs.List.{All};
 ghost use Rattle.cranelift_module.specs.LinkState.{state_of};
 ghost use Rattle.cranelift_module.specs.Refusal.{Tells, refusal_told};
 ghost use Rattle.cranelift_object.specs.Part.{start_cause, is_mach_o};
 ghost use Rattle.image_build.specs.Built.{Built, build_cause, TellsBuild, TellsCause, TellsOver, commands};
-ghost use Rattle.image_build.specs.Parts.{part_view, IsBuildable, IsPlainPart};
+ghost use Rattle.image_build.specs.Parts.{part_view, built_so_far, HasFewCalls, IsPlainPart};
 
 use crate::error::{BuildCause, BuildError, Place};
 use crate::part::Part;
 use cranelift_module::{ModuleError, ModuleResult};
 use cranelift_object::{CommandPart, EmitError, ObjectBuilder, ObjectModule, apply};
+use ir_core::{Architecture, BinaryFormat};
 use std::alloc::Global;
 
 /// The cause of a build that a module refused.
@@ -85,17 +87,38 @@ fn build_part(alloc: Global, part: &CommandPart) -> Result<Vec<u8>, BuildError>
     }
 }
 
-/// The file of the parts: no bytes for no part, and the object file of one part. More parts come with
-/// fat files. An error names the part, the place in it and the first cause.
+/// Whether these parts are built so far: one of commands, and no Mach-O file of x86_64 or aarch64. Images, and files of
+/// more parts, come with fat files.
+pub fn built_so_far(parts: &[Part]) -> bool
+    ensures { result ≡ built_so_far (map part_view parts.now) }
+{
+    match parts {
+        [Part::Commands(part)] => !is_mach_o(part),
+        _ => false,
+    }
+}
+
+// The part is a Mach-O file of a processor that has some.
+fn is_mach_o(part: &CommandPart) -> bool
+    ensures { result ≡ is_mach_o (part.now).target.triple.architecture (part.now).target.triple.binary_format }
+{
+    let triple = part.isa().triple();
+    match (triple.architecture, triple.binary_format) {
+        (Architecture::X86_64 | Architecture::Aarch64, BinaryFormat::Macho) => true,
+        _ => false,
+    }
+}
+
+/// The object file of the one part. An error names the part, the place in it and the first cause.
 pub fn build_image(alloc: Global, parts: &[Part]) -> Result<Vec<u8>, BuildError>
-    requires { IsBuildable (map part_view parts.now) }
+    requires built { built_so_far (map part_view parts.now) ≡ true }
+    requires few { All HasFewCalls (map part_view parts.now) }
     ensures built { IfOk result (λ bytes. Built (map part_view parts.now) bytes.items) }
     ensures valid { OnOk result (build_cause (map part_view parts.now) ≡ None) }
     ensures cause { IfErr result (λ error. TellsBuild error (build_cause (map part_view parts.now))) }
 {
     match parts {
-        [] => Ok(Vec::new(alloc)),
-        [Part::Commands(part), ..] => build_part(alloc, part),
-        [Part::Image(_), ..] => unreachable!(),
+        [Part::Commands(part)] => build_part(alloc, part),
+        _ => unreachable!(),
     }
 }

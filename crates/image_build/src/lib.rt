@@ -8,7 +8,7 @@ mod build;
 mod error;
 mod part;
 
-pub use build::build_image;
+pub use build::{build_image, built_so_far};
 pub use cranelift_object::{Command, CommandPart, apply};
 pub use error::{BuildCause, BuildError, Place};
 pub use part::Part;

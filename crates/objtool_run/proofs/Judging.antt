@@ -1,9 +1,10 @@
 -- What each end of a run says of its input.
-use Rattle.std.proofs.Common.{◌≡◌, ℕ, ◌⊎◌, List, Option, Some, None, IfSome, string_bytes, refl, ap, sym, ◌∙◌, arith}
+use Rattle.std.proofs.Common.{◌≡◌, ℕ, ◌⊎◌, true, List, Option, Some, None, IfSome, string_bytes, refl, ap, sym, ◌∙◌, arith}
 use Rattle.serde_json.specs.Data.{Data}
 use Rattle.image_build.specs.Built.{BuildPart, BuildRefusal, build_cause}
+use Rattle.image_build.specs.Parts.{built_so_far}
 use Rattle.objtool_run.specs.Fault.{code_of}
-use Rattle.objtool_run.specs.Script.{HasJson, HasNoJson, HasOtherForm, StandsFor}
+use Rattle.objtool_run.specs.Script.{HasJson, HasNoParts, HasOtherParts, StandsFor}
 use Rattle.objtool_run.specs.Reading.{IsImage, HasNoImage, IsImageLine, IsUnreadImage, JudgesRead}
 use Rattle.objtool_run.specs.Run.{IsOutput, IsLong, Explains, Judges, JudgesBuild, IsAnswerable, IsJudged}
 use Rattle.objtool_run.specs.declared.words.Request.{Request}
@@ -22,42 +23,43 @@ one_value b d e h k = let p = h.value in let q = k.value in cc
 one_list : (b : List ℕ) (xs ys : List BuildPart) → StandsFor b xs → StandsFor b ys → xs ≡ ys
 one_list b xs ys (d, h, p) (e, k, q) = let same = one_value b d e h k in cc
 
-not_other : (b : List ℕ) (xs : List BuildPart) → StandsFor b xs → HasOtherForm b → ⊥
-not_other b xs (d, h, p) (e, k, q) = let same = one_value b d e h k in cc
+-- parts that are built so far are no others
+not_other : (b : List ℕ) (xs : List BuildPart) → StandsFor b xs → built_so_far xs ≡ true → HasOtherParts b → ⊥
+not_other b xs s t (ys, k, f) = let same = one_list b xs ys s k in absurd (cc)
 
-not_unread : (b : List ℕ) (xs : List BuildPart) → StandsFor b xs → HasNoJson b → ⊥
-not_unread b xs (d, h, p) none = none d h
+not_unread : (b : List ℕ) (xs : List BuildPart) → StandsFor b xs → HasNoParts b → ⊥
+not_unread b xs (d, h, p) none = let z : Some xs ≡ None = sym p ∙ none d h in absurd (cc)
 
-judges_valid : (input : List ℕ) (parts : List BuildPart) (status : ℕ) → StandsFor input parts → build_cause parts ≡ None → (status ≡ 0) ⊎ (status ≡ 4) → JudgesBuild input status
-judges_valid input parts status stands valid ends = record {
+judges_valid : (input : List ℕ) (parts : List BuildPart) (status : ℕ) → StandsFor input parts → built_so_far parts ≡ true → build_cause parts ≡ None → (status ≡ 0) ⊎ (status ≡ 4) → JudgesBuild input status
+judges_valid input parts status stands built valid ends = record {
   unread = λ h. absurd (not_unread input parts stands h);
-  other = λ h. absurd (not_other input parts stands h);
-  refused = λ others r also cause. let same = one_list input parts others stands also in absurd (cc);
-  valid = λ others also none. ends;
+  other = λ h. absurd (not_other input parts stands built h);
+  refused = λ others r also so_far cause. let same = one_list input parts others stands also in absurd (cc);
+  valid = λ others also so_far none. ends;
 }
 
-judges_refused : (input : List ℕ) (parts : List BuildPart) (r : BuildRefusal) → StandsFor input parts → build_cause parts ≡ Some r → JudgesBuild input 1
-judges_refused input parts r stands refused = record {
+judges_refused : (input : List ℕ) (parts : List BuildPart) (r : BuildRefusal) → StandsFor input parts → built_so_far parts ≡ true → build_cause parts ≡ Some r → JudgesBuild input 1
+judges_refused input parts r stands built refused = record {
   unread = λ h. absurd (not_unread input parts stands h);
-  other = λ h. absurd (not_other input parts stands h);
-  refused = λ others s also cause. refl;
-  valid = λ others also none. let same = one_list input parts others stands also in absurd (cc);
+  other = λ h. absurd (not_other input parts stands built h);
+  refused = λ others s also so_far cause. refl;
+  valid = λ others also so_far none. let same = one_list input parts others stands also in absurd (cc);
 }
 
-judges_unread : (input : List ℕ) → HasNoJson input → JudgesBuild input 6
+judges_unread : (input : List ℕ) → HasNoParts input → JudgesBuild input 6
 judges_unread input none = record {
   unread = λ h. refl;
-  other = λ h. absurd (none h.0 h.1);
-  refused = λ parts r stands cause. absurd (not_unread input parts stands none);
-  valid = λ parts stands cause. absurd (not_unread input parts stands none);
+  other = λ h. absurd (not_unread input h.0 h.1 none);
+  refused = λ parts r stands so_far cause. absurd (not_unread input parts stands none);
+  valid = λ parts stands so_far cause. absurd (not_unread input parts stands none);
 }
 
-judges_other : (input : List ℕ) → HasOtherForm input → JudgesBuild input 8
+judges_other : (input : List ℕ) → HasOtherParts input → JudgesBuild input 8
 judges_other input other = record {
-  unread = λ none. absurd (none other.0 other.1);
+  unread = λ none. absurd (not_unread input other.0 other.1 none);
   other = λ h. refl;
-  refused = λ parts r stands cause. absurd (not_other input parts stands other);
-  valid = λ parts stands cause. absurd (not_other input parts stands other);
+  refused = λ parts r stands so_far cause. absurd (not_other input parts stands so_far other);
+  valid = λ parts stands so_far cause. absurd (not_other input parts stands so_far other);
 }
 
 -- -- queries
@@ -113,8 +115,8 @@ pub judges_output : (r : Request) (input : Option (List ℕ)) (text : List ℕ) 
 judges_output (Names machine number) input text status h ends = ends
 judges_output (Ask q) input text status h ends =
     if_known (λ known. IsTold q known text) (λ known. JudgesQuery q known status) (λ known a. let is = told_is text (reply_of q a.value) a.line_is in judges_told q known a.value is.0 status a.json is.1 ends) input h
-judges_output Build input text status h ends = if_known _ (λ known. JudgesBuild known status) (λ known a. judges_valid known a.parts status a.stands a.valid ends) input h
-judges_output Raw input text status h ends = if_known _ (λ known. JudgesBuild known status) (λ known a. judges_valid known a.parts status a.stands a.valid ends) input h
+judges_output Build input text status h ends = if_known _ (λ known. JudgesBuild known status) (λ known a. judges_valid known a.parts status a.stands a.so_far a.valid ends) input h
+judges_output Raw input text status h ends = if_known _ (λ known. JudgesBuild known status) (λ known a. judges_valid known a.parts status a.stands a.so_far a.valid ends) input h
 judges_output Read input text status h ends = if_known (λ known. IsImageLine known text) (λ known. JudgesRead known status) (λ known a. judges_image known status (record { image = a.image; reads = a.reads }) ends) input h
 
 -- a request with a fault that its input has
@@ -137,22 +139,22 @@ judges_fault (Names machine number) input OutOfMemory j h = absurd j
 judges_fault (Names machine number) input NotUnderstood j h = absurd h
 judges_fault (Names machine number) input TooLong j h = absurd j
 judges_fault (Names machine number) input NotYet j h = absurd h
-judges_fault Build input (Refused text) j h = if_known _ (λ known. JudgesBuild known 1) (λ known a. judges_refused known a.parts a.refusal a.stands a.refused) input h
+judges_fault Build input (Refused text) j h = if_known _ (λ known. JudgesBuild known 1) (λ known a. judges_refused known a.parts a.refusal a.stands a.so_far a.refused) input h
 judges_fault Build input BadWords j h = absurd j
 judges_fault Build input ReadFailed j h = absurd j
 judges_fault Build input WriteFailed j h = absurd j
 judges_fault Build input OutOfMemory j h = absurd j
-judges_fault Build input NotUnderstood j h = if_known HasNoJson (λ known. JudgesBuild known 6) judges_unread input h
+judges_fault Build input NotUnderstood j h = if_known HasNoParts (λ known. JudgesBuild known 6) judges_unread input h
 judges_fault Build input TooLong j h = absurd j
-judges_fault Build input NotYet j h = if_known HasOtherForm (λ known. JudgesBuild known 8) judges_other input h
-judges_fault Raw input (Refused text) j h = if_known _ (λ known. JudgesBuild known 1) (λ known a. judges_refused known a.parts a.refusal a.stands a.refused) input h
+judges_fault Build input NotYet j h = if_known HasOtherParts (λ known. JudgesBuild known 8) judges_other input h
+judges_fault Raw input (Refused text) j h = if_known _ (λ known. JudgesBuild known 1) (λ known a. judges_refused known a.parts a.refusal a.stands a.so_far a.refused) input h
 judges_fault Raw input BadWords j h = absurd j
 judges_fault Raw input ReadFailed j h = absurd j
 judges_fault Raw input WriteFailed j h = absurd j
 judges_fault Raw input OutOfMemory j h = absurd j
-judges_fault Raw input NotUnderstood j h = if_known HasNoJson (λ known. JudgesBuild known 6) judges_unread input h
+judges_fault Raw input NotUnderstood j h = if_known HasNoParts (λ known. JudgesBuild known 6) judges_unread input h
 judges_fault Raw input TooLong j h = absurd j
-judges_fault Raw input NotYet j h = if_known HasOtherForm (λ known. JudgesBuild known 8) judges_other input h
+judges_fault Raw input NotYet j h = if_known HasOtherParts (λ known. JudgesBuild known 8) judges_other input h
 judges_fault Read input (Refused text) j h = if_known (λ known. IsUnreadImage known (string_bytes text)) (λ known. JudgesRead known 1) (λ known a. judges_no_image known a.no_image) input h.1
 judges_fault Read input BadWords j h = absurd j
 judges_fault Read input ReadFailed j h = absurd j
@@ -168,9 +170,9 @@ valid_ends (Names machine number) input status v j = j
 valid_ends (Ask q) None status v j = absurd v
 valid_ends (Ask q) (Some input) status v j = j.told v.0.value v.0.text v.0.json v.0.reply
 valid_ends Build None status v j = absurd v
-valid_ends Build (Some input) status v j = j.valid v.0.parts v.0.stands v.0.valid
+valid_ends Build (Some input) status v j = j.valid v.0.parts v.0.stands v.0.so_far v.0.valid
 valid_ends Raw None status v j = absurd v
-valid_ends Raw (Some input) status v j = j.valid v.0.parts v.0.stands v.0.valid
+valid_ends Raw (Some input) status v j = j.valid v.0.parts v.0.stands v.0.so_far v.0.valid
 valid_ends Read None status v j = absurd v
 valid_ends Read (Some input) status v j = j.read v.0
 

@@ -3,6 +3,5 @@ pub mod NoFloat
 pub mod NumberWords
 pub mod Judging
 pub mod Endings
-pub mod PartList
 pub mod Appending
 pub mod Libcalls

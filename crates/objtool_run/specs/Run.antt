@@ -1,11 +1,12 @@
 -- What a request gives over its input.
-use Rattle.std.specs.Prelude.{◌≡◌, ◌≢◌, ◌<◌, ◌≤◌, ℕ, ◌⊎◌, List, length, Option, Some, None, IfSome, string_bytes}
+use Rattle.std.specs.Prelude.{◌≡◌, ◌≢◌, true, ◌<◌, ◌≤◌, ℕ, ◌⊎◌, List, length, Option, Some, None, IfSome, string_bytes}
 use Rattle.std.specs.List.{All}
 use Rattle.hex.specs.Hex.{encode_lower}
 use Rattle.byte_core.specs.Outside.{Outside, IsAtEnd}
 use Rattle.image_build.specs.declared.error.BuildError.{BuildError}
 use Rattle.image_build.specs.declared.error.BuildCause.TheVariants as causes
 use Rattle.image_build.specs.Built.{BuildPart, Built, BuildRefusal, TellsBuild, build_cause}
+use Rattle.image_build.specs.Parts.{built_so_far}
 use Rattle.image_build.specs.Texts.{build_text}
 use Rattle.objtool_run.specs.Fault.{line}
 use Rattle.objtool_run.specs.declared.words.Request.{Request}
@@ -13,7 +14,7 @@ use Rattle.objtool_run.specs.declared.words.Request.TheVariants.{Build, Raw, Rea
 use Rattle.objtool_run.specs.Query.{IsTold, IsRefusedQuery, IsUnreadQuery, ExplainsQuery, JudgesQuery, IsAnswered}
 use Rattle.objtool_run.specs.Reading.{IsImageLine, IsUnreadImage, IsImage, ExplainsRead, IsFileFault, JudgesRead}
 use Rattle.goblin_reloc_names.specs.Names.{relocation_name}
-use Rattle.objtool_run.specs.Script.{HasNoJson, HasOtherForm, StandsFor}
+use Rattle.objtool_run.specs.Script.{HasNoParts, HasOtherParts, StandsFor}
 use Rattle.objtool_run.specs.declared.fault.Fault.{Fault}
 use Rattle.objtool_run.specs.declared.fault.Fault.TheVariants.{Refused, BadWords, ReadFailed, WriteFailed, OutOfMemory, NotUnderstood, TooLong, NotYet}
 
@@ -29,6 +30,7 @@ line_of bytes = line (encode_lower bytes)
 pub record IsAnswer (input text : List ℕ) : Type 0 where
   pub parts : List BuildPart
   pub stands : StandsFor input parts
+  pub so_far : built_so_far parts ≡ true
   pub valid : build_cause parts ≡ None
   pub bytes : List ℕ
   pub are_bytes : All (λ x. x < 256) bytes
@@ -39,6 +41,7 @@ pub record IsAnswer (input text : List ℕ) : Type 0 where
 pub record IsFile (input bytes : List ℕ) : Type 0 where
   pub parts : List BuildPart
   pub stands : StandsFor input parts
+  pub so_far : built_so_far parts ≡ true
   pub valid : build_cause parts ≡ None
   pub are_bytes : All (λ x. x < 256) bytes
   pub built : Built parts bytes
@@ -47,6 +50,7 @@ pub record IsFile (input bytes : List ℕ) : Type 0 where
 pub record IsRefusal (input text : List ℕ) : Type 0 where
   pub parts : List BuildPart
   pub stands : StandsFor input parts
+  pub so_far : built_so_far parts ≡ true
   pub refusal : BuildRefusal
   pub refused : build_cause parts ≡ Some refusal
   pub error : BuildError
@@ -61,9 +65,9 @@ ExplainsBuild input BadWords = Unit {0}
 ExplainsBuild input ReadFailed = Unit {0}
 ExplainsBuild input WriteFailed = Unit {0}
 ExplainsBuild input OutOfMemory = Unit {0}
-ExplainsBuild input NotUnderstood = HasNoJson input
+ExplainsBuild input NotUnderstood = HasNoParts input
 ExplainsBuild input TooLong = Unit {0}
-ExplainsBuild input NotYet = HasOtherForm input
+ExplainsBuild input NotYet = HasOtherParts input
 
 -- the faults that an input alone can have
 abbrev pub IsOfInput : Fault → Type 0
@@ -106,10 +110,10 @@ TellsRefusal error _ = ⊥
 
 -- how a build over an input may end, apart from failed reads, want of memory and the limit of its length
 pub record JudgesBuild (input : List ℕ) (status : ℕ) : Type 0 where
-  pub unread : HasNoJson input → status ≡ 6
-  pub other : HasOtherForm input → status ≡ 8
-  pub refused : (parts : List BuildPart) (r : BuildRefusal) → StandsFor input parts → build_cause parts ≡ Some r → status ≡ 1
-  pub valid : (parts : List BuildPart) → StandsFor input parts → build_cause parts ≡ None → (status ≡ 0) ⊎ (status ≡ 4)
+  pub unread : HasNoParts input → status ≡ 6
+  pub other : HasOtherParts input → status ≡ 8
+  pub refused : (parts : List BuildPart) (r : BuildRefusal) → StandsFor input parts → built_so_far parts ≡ true → build_cause parts ≡ Some r → status ≡ 1
+  pub valid : (parts : List BuildPart) → StandsFor input parts → built_so_far parts ≡ true → build_cause parts ≡ None → (status ≡ 0) ⊎ (status ≡ 4)
 
 -- -- by request, over the input where it is known
 
@@ -131,16 +135,16 @@ IsRefused (Ask query) input text = IfSome input (λ known. IsRefusedQuery query 
 
 -- the input has no reading, or none of the request's form
 abbrev pub IsUnread : Request → Option (List ℕ) → Type 0
-IsUnread Build input = IfSome input HasNoJson
-IsUnread Raw input = IfSome input HasNoJson
+IsUnread Build input = IfSome input HasNoParts
+IsUnread Raw input = IfSome input HasNoParts
 IsUnread Read input = ⊥
 IsUnread (Names machine number) input = ⊥
 IsUnread (Ask query) input = IfSome input (λ known. IsUnreadQuery query known)
 
 -- the input has a reading of another form than is built so far
 abbrev pub IsOther : Request → Option (List ℕ) → Type 0
-IsOther Build input = IfSome input HasOtherForm
-IsOther Raw input = IfSome input HasOtherForm
+IsOther Build input = IfSome input HasOtherParts
+IsOther Raw input = IfSome input HasOtherParts
 IsOther Read input = ⊥
 IsOther (Names machine number) input = ⊥
 IsOther (Ask query) input = IfSome input (λ known. ⊥)
@@ -192,6 +196,7 @@ Judges (Ask query) input status = IfSome input (λ known. JudgesQuery query know
 pub record IsValid (input : List ℕ) : Type 0 where
   pub parts : List BuildPart
   pub stands : StandsFor input parts
+  pub so_far : built_so_far parts ≡ true
   pub valid : build_cause parts ≡ None
 
 -- the input, where the request has one, is known and within the limit, and nothing refuses it

@@ -1,8 +1,8 @@
 -- The list of parts that a JSON value stands for.
-use Rattle.std.specs.Prelude.{◌≡◌, ℕ, false, List, [], ◌∷◌, codes, if◌then◌else◌, Option, Some, None}
+use Rattle.std.specs.Prelude.{◌≡◌, ℕ, false, List, [], ◌∷◌, codes, if◌then◌else◌, Option, Some, None, is_some}
 use Rattle.std.specs.Str.{bytes_eq, IsUtf8}
-use Rattle.serde_json.specs.Data.{Data, Items, no_items, item}
-use Rattle.serde_json.specs.Find.{as_array}
+use Rattle.serde_json.specs.Data.{Data, Items}
+use Rattle.serde_json.specs.Find.{as_array, get}
 use Rattle.serde_json.specs.Read.{read}
 use Rattle.ir_core.specs.Target.{default_call_conv}
 use Rattle.ir_core.specs.declared.types.CallConv.{CallConv}
@@ -10,12 +10,12 @@ use Rattle.cranelift_module.specs.declared.linkage.Linkage.{Linkage}
 use Rattle.cranelift_module.specs.declared.linkage.Linkage.TheVariants.{Import, Local, Preemptible, Hidden, Export}
 use Rattle.cranelift_module.specs.Call.{Call, declare_function, declare_anonymous_function, declare_data, declare_anonymous_data}
 use Rattle.cranelift_object.specs.Settings.{Settings}
-use Rattle.cranelift_object.specs.Part.{is_mach_o}
-use Rattle.image_build.specs.Built.{BuildPart, commands}
+use Rattle.image_build.specs.Built.{BuildPart, commands, image}
+use Rattle.image_build.specs.Parts.{built_so_far}
 use Rattle.objtool_run.specs.TargetForm.{libcalls_at, part_target}
 use Rattle.objtool_run.specs.SignatureForm.{signature_at}
 use Rattle.objtool_run.specs.DefinitionForm.{define_of, define_data_of}
-use Rattle.json_form.specs.Form.{◌>>=◌, each_of, text_at, items_at, mark_or, with_keys}
+use Rattle.json_form.specs.Form.{◌>>=◌, each_of, text_at, items_at, hex_at, mark_or, with_keys}
 
 -- -- commands
 
@@ -99,24 +99,28 @@ part_keys =
     codes "name" ∷ codes "arch" ∷ codes "format" ∷ codes "system" ∷ codes "version" ∷ codes "environment" ∷ codes "flags" ∷ codes "function_sections" ∷ codes "data_sections"
     ∷ codes "libcalls" ∷ codes "commands" ∷ []
 
--- A part of commands. A function that names no convention has the default one of the part's own target. Mach-O
--- files aren't built yet.
-unfoldable pub part_of : Data → Option BuildPart
-part_of d = with_keys part_keys d do
+-- a part of commands; a function that names no convention has the default one of the part's own target
+unfoldable pub command_part_of : Data → Option BuildPart
+command_part_of d = with_keys part_keys d do
   settings ← settings_of d
   target ← part_target d
   items ← items_at (codes "commands") d
   calls ← commands_of (default_call_conv target.triple) items
-  if is_mach_o target.triple.architecture target.triple.binary_format then None else Some (commands (record { settings = settings; target = target; calls = calls }))
+  Some (commands (record { settings = settings; target = target; calls = calls }))
 
-abbrev pub one_part : Items → Option (List BuildPart)
-one_part no_items = None
-one_part (item d no_items) = part_of d >>= λ part. Some (part ∷ [])
-one_part (item d (item e ds)) = None
+-- an image: the bytes of a Mach-O file in hexadecimal
+unfoldable pub image_part_of : Data → Option BuildPart
+image_part_of d = with_keys (codes "image" ∷ []) d do
+  bytes ← hex_at (codes "image") d
+  Some (image bytes)
 
--- a list of one part
+-- an image, where the object has that key, else a part of commands
+abbrev pub part_of : Data → Option BuildPart
+part_of d = if is_some (get (codes "image") d) then image_part_of d else command_part_of d
+
+-- a list of parts
 abbrev pub parts_of : Data → Option (List BuildPart)
-parts_of d = as_array d >>= λ ds. one_part ds
+parts_of d = as_array d >>= λ ds. each_of part_of ds
 
 -- -- the bytes of an input
 
@@ -125,14 +129,14 @@ pub record HasJson (bytes : List ℕ) (d : Data) : Type 0 where
   pub utf8 : IsUtf8 bytes
   pub value : read bytes ≡ Some d
 
--- the input has no JSON reading
-abbrev pub HasNoJson : List ℕ → Type 0
-HasNoJson input = (d : Data) → HasJson input d → ⊥
-
--- the input has a reading, and the value isn't of the form built so far
-abbrev pub HasOtherForm : List ℕ → Type 0
-HasOtherForm input = (d : Data) × HasJson input d × (parts_of d ≡ None)
+-- the input has no JSON reading, or one that isn't of the form of parts
+abbrev pub HasNoParts : List ℕ → Type 0
+HasNoParts input = (d : Data) → HasJson input d → parts_of d ≡ None
 
 -- the input stands for these parts
 abbrev pub StandsFor : List ℕ → List BuildPart → Type 0
 StandsFor input parts = (d : Data) × HasJson input d × (parts_of d ≡ Some parts)
+
+-- the input stands for parts that aren't built so far
+abbrev pub HasOtherParts : List ℕ → Type 0
+HasOtherParts input = (parts : List BuildPart) × StandsFor input parts × (built_so_far parts ≡ false)

@@ -8,7 +8,7 @@ ghost use Rattle.objtool_run.specs.Run.{IsAnswer, IsFile, ExplainsBuild, IsOfInp
 
 use crate::fault::Fault;
 use crate::script::part::read_parts;
-use image_build::{BuildCause, BuildError, build_image};
+use image_build::{BuildCause, BuildError, build_image, built_so_far};
 use std::alloc::{AllocError, Global};
 
 /// The output for some bytes: their lower-case hexadecimal and a newline.
@@ -50,6 +50,9 @@ pub fn built_file(alloc: Global, input: &[u8]) -> Result<Vec<u8>, Fault>
         Ok(parts) => parts,
         Err(fault) => return Err(fault),
     };
+    if !built_so_far(&parts) {
+        return Err(Fault::NotYet);
+    }
     match build_image(alloc, &parts) {
         Ok(bytes) => {
             are_bytes(&bytes);

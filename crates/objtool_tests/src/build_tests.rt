@@ -204,29 +204,31 @@ fn bad_inputs_have_their_status(rt: HostRuntime) -> Result<(), Fail> {
         "{\"op\":\"define_function\",\"id\":0,\"bytes\":\"c\"}",
     )?;
     let cases = [
-        ("", 6),
-        ("[][]", 6),
-        (deeper.as_str(), 6),
-        (deep.as_str(), 8),
-        ("[]", 8),
-        ("{}", 8),
-        ("1", 8),
-        (unknown_op.as_str(), 8),
-        (unknown_key.as_str(), 8),
-        (missing_key.as_str(), 8),
-        (number_as_text.as_str(), 8),
-        (odd_digits.as_str(), 8),
+        "",
+        "[][]",
+        deeper.as_str(),
+        deep.as_str(),
+        "{}",
+        "1",
+        "[1]",
+        "[{}]",
+        unknown_op.as_str(),
+        unknown_key.as_str(),
+        missing_key.as_str(),
+        number_as_text.as_str(),
+        odd_digits.as_str(),
+        "[{\"image\":\"0\"}]",
+        "[{\"image\":0}]",
+        "[{\"image\":\"00\",\"name\":\"a.o\"}]",
     ];
-    for (text, status) in cases {
+    for text in cases {
         let mut host = MemHost::new(alloc, text.as_bytes(), NONE, 2000)?;
-        assert_eq!(rt; run(alloc, &build, &mut host), status, "{text}");
+        assert_eq!(rt; run(alloc, &build, &mut host), 6, "{text}");
         assert_eq!(rt; host.output().len(), 0, "{text}");
-        let want = if status == 6 {
-            "input not understood\n"
-        } else {
-            "not yet\n"
-        };
-        assert!(rt; host.errors() == want.as_bytes(), "{text}");
+        assert!(rt;
+            host.errors() == b"input not understood\n".as_slice(),
+            "{text}"
+        );
     }
     let mut host = MemHost::new(alloc, b"\xff[]", NONE, 2000)?;
     assert_eq!(rt; run(alloc, &build, &mut host), 6);
@@ -234,6 +236,32 @@ fn bad_inputs_have_their_status(rt: HostRuntime) -> Result<(), Fail> {
         let mut host = MemHost::new(alloc, MAIN.as_bytes(), NONE, 2000)?;
         assert_eq!(rt; run(alloc, &other, &mut host), 2);
         assert!(rt; host.errors() == b"words not understood\n".as_slice());
+    }
+    Ok(())
+}
+
+#[test]
+fn parts_that_are_not_built_so_far_have_a_status_of_their_own(rt: HostRuntime) -> Result<(), Fail> {
+    let alloc = rt.alloc();
+    let cases = [
+        "[]",
+        "[{\"image\":\"\"}]",
+        "[{\"image\":\"cafebabe00000000\"}]",
+        "[{\"name\":\"a.o\",\"arch\":\"x86_64\",\"format\":\"macho\",\"commands\":[]}]",
+        "[{\"name\":\"a.o\",\"arch\":\"aarch64\",\"format\":\"macho\",\"system\":\"macosx\",\"version\":[11,0,0],\"commands\":[]}]",
+        "[{\"name\":\"a.o\",\"arch\":\"x86_64\",\"format\":\"elf\",\"commands\":[]},{\"name\":\"b.o\",\"arch\":\"x86_64\",\"format\":\"elf\",\"commands\":[]}]",
+        "[{\"name\":\"a.o\",\"arch\":\"x86_64\",\"format\":\"elf\",\"commands\":[]},{\"image\":\"00\"}]",
+    ];
+    for line in [
+        words(alloc, &["build"])?,
+        words(alloc, &["build", "--raw"])?,
+    ] {
+        for text in cases {
+            let mut host = MemHost::new(alloc, text.as_bytes(), NONE, 2000)?;
+            assert_eq!(rt; run(alloc, &line, &mut host), 8, "{text}");
+            assert_eq!(rt; host.output().len(), 0, "{text}");
+            assert!(rt; host.errors() == b"not yet\n".as_slice(), "{text}");
+        }
     }
     Ok(())
 }

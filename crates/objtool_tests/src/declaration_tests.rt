@@ -77,7 +77,7 @@ fn a_mark_of_data_is_a_truth_value(rt: HostRuntime) -> Result<(), Fail> {
     for commands in cases {
         let text = part_of(alloc, commands)?;
         let mut host = MemHost::new(alloc, text.as_bytes(), NONE, 2000)?;
-        assert_eq!(rt; run(alloc, &build, &mut host), 8, "{commands}");
+        assert_eq!(rt; run(alloc, &build, &mut host), 6, "{commands}");
     }
     Ok(())
 }

@@ -153,7 +153,7 @@ fn zeros_of_a_zero_fill_section_are_a_number(rt: HostRuntime) -> Result<(), Fail
 }
 
 #[test]
-fn definitions_out_of_form_are_not_built(rt: HostRuntime) -> Result<(), Fail> {
+fn definitions_out_of_form_are_not_understood(rt: HostRuntime) -> Result<(), Fail> {
     let alloc = rt.alloc();
     let build = words(alloc, &["build"])?;
     let cases = [
@@ -177,8 +177,11 @@ fn definitions_out_of_form_are_not_built(rt: HostRuntime) -> Result<(), Fail> {
     for commands in cases {
         let text = part_of(alloc, commands)?;
         let mut host = MemHost::new(alloc, text.as_bytes(), NONE, 2000)?;
-        assert_eq!(rt; run(alloc, &build, &mut host), 8, "{commands}");
-        assert!(rt; host.errors() == b"not yet\n".as_slice(), "{commands}");
+        assert_eq!(rt; run(alloc, &build, &mut host), 6, "{commands}");
+        assert!(rt;
+            host.errors() == b"input not understood\n".as_slice(),
+            "{commands}"
+        );
     }
     Ok(())
 }

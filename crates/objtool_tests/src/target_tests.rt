@@ -603,11 +603,9 @@ fn the_default_convention_is_that_of_the_parts_own_target(rt: HostRuntime) -> Re
 }
 
 #[test]
-fn keys_of_a_target_out_of_form_are_not_built(rt: HostRuntime) -> Result<(), Fail> {
+fn keys_of_a_target_out_of_form_are_not_understood(rt: HostRuntime) -> Result<(), Fail> {
     let alloc = rt.alloc();
     let cases = [
-        r#""arch":"x86_64","format":"macho""#,
-        r#""arch":"aarch64","format":"macho""#,
         r#""arch":"mips","format":"elf""#,
         r#""arch":"X86_64","format":"elf""#,
         r#""arch":"x86_64","format":"ELF""#,
@@ -649,13 +647,13 @@ fn keys_of_a_target_out_of_form_are_not_built(rt: HostRuntime) -> Result<(), Fai
     ];
     for keys in cases {
         let part = part_for(alloc, keys, "")?;
-        refuses(&rt, alloc, &part, 8, "not yet\n")?;
+        refuses(&rt, alloc, &part, 6, "input not understood\n")?;
     }
     Ok(())
 }
 
 #[test]
-fn targets_of_relocations_out_of_form_are_not_built(rt: HostRuntime) -> Result<(), Fail> {
+fn targets_of_relocations_out_of_form_are_not_understood(rt: HostRuntime) -> Result<(), Fail> {
     let alloc = rt.alloc();
     let cases = [
         r#"{"offset":0,"kind":"Abs8","target":{"user":[0]}}"#,
@@ -684,7 +682,7 @@ fn targets_of_relocations_out_of_form_are_not_built(rt: HostRuntime) -> Result<(
             "{{\"op\":\"declare_function\",\"name\":\"f\",\"linkage\":\"Export\"}},{{\"op\":\"define_function\",\"id\":0,\"bytes\":\"0000000000000000\",\"relocs\":[{relocation}]}}"
         )?;
         let part = part_for(alloc, "\"arch\":\"x86_64\",\"format\":\"elf\"", &commands)?;
-        refuses(&rt, alloc, &part, 8, "not yet\n")?;
+        refuses(&rt, alloc, &part, 6, "input not understood\n")?;
     }
     Ok(())
 }

@@ -4,19 +4,19 @@ ghost use Rattle.std.specs.Prelude.{◌≡◌, ◌<◌, ◌∷◌, [], map, leng
 ghost use Rattle.std.specs.List.{All};
 ghost use Rattle.serde_json.specs.View.{view, items_view};
 ghost use Rattle.cranelift_object.specs.Command.{command_view};
-ghost use Rattle.image_build.specs.Parts.{part_view, IsBuildable};
-ghost use Rattle.json_form.specs.Form.{Gives, has_keys_within};
-ghost use Rattle.objtool_run.specs.Script.{settings_of, part_keys, part_of, parts_of, StandsFor};
+ghost use Rattle.image_build.specs.Parts.{part_view, HasFewCalls};
+ghost use Rattle.json_form.specs.Form.{Gives, each_of, has_keys_within};
+ghost use Rattle.objtool_run.specs.Script.{settings_of, part_keys, command_part_of, image_part_of, part_of, parts_of, StandsFor};
 ghost use Rattle.objtool_run.specs.Run.{ExplainsBuild, IsOfInput};
 
 use crate::fault::Fault;
 use crate::script::command::commands_of;
 use crate::script::libcalls::libcalls_at;
-use crate::script::target::{is_mach_o, part_target};
+use crate::script::target::part_target;
 use cranelift_object::CommandPart;
 use image_build::Part;
 use ir_core::TargetIsa;
-use json_form::{FormError, has_keys_within, items_at, mark_or, text_at};
+use json_form::{FormError, has_keys_within, hex_at, items_at, mark_or, text_at};
 use serde_json::Value;
 use std::alloc::Global;
 
@@ -59,19 +59,16 @@ fn begin(alloc: Global, value: &Value, isa: TargetIsa) -> Result<CommandPart, Fo
     Ok(part)
 }
 
-/// The part that an object stands for.
-#[tactic(auto, unfolding(crate::specs::Script::part_of))]
-fn part_of(alloc: Global, value: &Value) -> Result<Part, FormError>
-    ensures form { Gives part_view result (part_of (view value.now)) }
-    ensures buildable { IfOk result (λ part. IsBuildable (part_view part ∷ [])) }
+/// The part of commands that an object stands for.
+#[tactic(auto, unfolding(crate::specs::Script::command_part_of))]
+fn command_part_of(alloc: Global, value: &Value) -> Result<Part, FormError>
+    ensures form { Gives part_view result (command_part_of (view value.now)) }
+    ensures few { IfOk result (λ part. HasFewCalls (part_view part)) }
 {
     if !has_part_keys(value) {
         return Err(FormError::NotForm);
     }
     let isa = part_target(alloc, value)?;
-    if is_mach_o(isa.triple()) {
-        return Err(FormError::NotForm);
-    }
     let convention = isa.default_call_conv();
     let mut part = begin(alloc, value, isa)?;
     let commands = commands_of(alloc, convention, items_at(value, "commands")?)?;
@@ -82,32 +79,61 @@ fn part_of(alloc: Global, value: &Value) -> Result<Part, FormError>
     Ok(Part::Commands(part))
 }
 
-/// The parts that a list stands for: one, so far.
-#[tactic(auto, using(crate::proofs::PartList::one_part_refused, crate::proofs::PartList::one_part_taken, crate::proofs::PartList::one_part_stopped))]
-fn parts_of(alloc: Global, value: &Value) -> Result<Vec<Part>, FormError>
-    ensures form { Gives (λ v. map part_view v.items) result (parts_of (view value.now)) }
-    ensures buildable { IfOk result (λ parts. IsBuildable (map part_view parts.items)) }
+/// The image that an object stands for.
+#[tactic(auto, unfolding(crate::specs::Script::image_part_of))]
+fn image_part_of(alloc: Global, value: &Value) -> Result<Part, FormError>
+    ensures form { Gives part_view result (image_part_of (view value.now)) }
+    ensures few { IfOk result (λ part. HasFewCalls (part_view part)) }
 {
-    let Some(values) = value.as_array() else {
-        return Err(FormError::NotForm);
-    };
-    if values.len() != 1 {
+    if !has_keys_within(value, &["image"]) {
         return Err(FormError::NotForm);
     }
-    match part_of(alloc, &values[0]) {
-        Ok(part) => {
-            let mut parts = Vec::new(alloc);
-            parts.push(part)?;
-            Ok(parts)
+    let bytes = hex_at(alloc, value, "image")?;
+    Ok(Part::Image(bytes))
+}
+
+/// The part that an object stands for.
+fn part_of(alloc: Global, value: &Value) -> Result<Part, FormError>
+    ensures form { Gives part_view result (part_of (view value.now)) }
+    ensures few { IfOk result (λ part. HasFewCalls (part_view part)) }
+{
+    if value.get("image").is_some() {
+        image_part_of(alloc, value)
+    } else {
+        command_part_of(alloc, value)
+    }
+}
+
+/// The parts that the values of a list stand for.
+fn parts_in(alloc: Global, values: &[Value]) -> Result<Vec<Part>, FormError>
+    ensures form { Gives (λ v. map part_view v.items) result (each_of part_of (items_view values.now)) }
+    ensures few { IfOk result (λ parts. All HasFewCalls (map part_view parts.items)) }
+{
+    let mut parts = Vec::new(alloc);
+    for value in values {
+        match part_of(alloc, value) {
+            Ok(part) => parts.push(part)?,
+            Err(error) => return Err(error),
         }
-        Err(error) => Err(error),
+    }
+    Ok(parts)
+}
+
+/// The parts that a list stands for.
+fn parts_of(alloc: Global, value: &Value) -> Result<Vec<Part>, FormError>
+    ensures form { Gives (λ v. map part_view v.items) result (parts_of (view value.now)) }
+    ensures few { IfOk result (λ parts. All HasFewCalls (map part_view parts.items)) }
+{
+    match value.as_array() {
+        Some(values) => parts_in(alloc, values),
+        None => Err(FormError::NotForm),
     }
 }
 
 /// The parts that the bytes of an input stand for.
 pub fn read_parts(alloc: Global, input: &[u8]) -> Result<Vec<Part>, Fault>
     ensures stands { IfOk result (λ parts. StandsFor input.now (map part_view parts.items)) }
-    ensures buildable { IfOk result (λ parts. IsBuildable (map part_view parts.items)) }
+    ensures few { IfOk result (λ parts. All HasFewCalls (map part_view parts.items)) }
     ensures explained { IfErr result (λ fault. ExplainsBuild input.now fault) }
     ensures of_input { IfErr result (λ fault. IsOfInput fault) }
 {
@@ -118,7 +144,7 @@ pub fn read_parts(alloc: Global, input: &[u8]) -> Result<Vec<Part>, Fault>
     };
     match parts_of(alloc, &value) {
         Ok(parts) => Ok(parts),
-        Err(FormError::NotForm) => Err(Fault::NotYet),
+        Err(FormError::NotForm) => Err(Fault::NotUnderstood),
         Err(FormError::OutOfMemory) => Err(Fault::OutOfMemory),
     }
 }

@@ -3,7 +3,6 @@
 ghost use Rattle.std.specs.Prelude.{◌≡◌, ◌^◌, [], OnOk, IfErr};
 ghost use Rattle.serde_json.specs.Find.{as_bool};
 ghost use Rattle.serde_json.specs.View.{view, items_view};
-ghost use Rattle.cranelift_object.specs.Part.{is_mach_o};
 ghost use Rattle.json_form.specs.Form.{Gives, Fails, each_of, unless_null};
 ghost use Rattle.objtool_run.specs.TargetForm.{architecture_named, format_named, system_named, environment_named, architecture_at, format_at, system_at, environment_at, below_in, version_of, version_at, triple_of, text_in, mark_in, flag_of, IsFlagged, part_target};
 
@@ -224,14 +223,4 @@ pub fn part_target(alloc: Global, value: &Value) -> Result<TargetIsa, FormError>
     let mut isa = TargetIsa::new(alloc, triple_of(value)?);
     push_flags(&mut isa, list_at(value, "flags")?)?;
     Ok(isa)
-}
-
-/// Whether the target's files are Mach-O. None is built so far.
-pub fn is_mach_o(triple: &Triple) -> bool
-    ensures { result ≡ is_mach_o (triple.now).architecture (triple.now).binary_format }
-{
-    match (triple.architecture, triple.binary_format) {
-        (Architecture::X86_64 | Architecture::Aarch64, BinaryFormat::Macho) => true,
-        _ => false,
-    }
 }
