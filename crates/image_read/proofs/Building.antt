@@ -72,7 +72,7 @@ other_section : (b : List ℕ) (k j : ℕ) → ((section_row b j).sh_type == 4 &
 other_section b k j test h =
     let none : records_for b k j ≡ [] = rw test refl in
     let same : section_before b j k ≡ with_records (section_before b j k) (records_for b k j) =
-        ap (λ (records : List ElfRelocationRow). record (section_data b k) { relocations = records }) (rw (none, append-nil) refl) in
+    ap (λ (records : List ElfRelocationRow). record (section_data b k) { relocations = records }) (rw (none, append-nil) refl) in
     same ∙ sym (before_more b k j h)
 
 both_false : (x y k : ℕ) → x ≢ 4 → (x == 4 && y == k) ≡ false

@@ -27,7 +27,7 @@ same_later f g a b (suc n) less h = rw (h b (λ e. absurd (omega (arith, e))), s
 -- a row that changes alone
 pub set_row : {Y : Type 0} (f g : ℕ → Y) (a n i j : ℕ) → i < n → a + i ≡ j → ((k : ℕ) → k ≢ j → f k ≡ g k) → set (map f (range_with_len a n)) i (g j) ≡ map g (range_with_len a n)
 set_row f g a zero i j h place others = absurd (omega arith)
-set_row f g a (suc n) zero j h place others = 
+set_row f g a (suc n) zero j h place others =
     let same : a ≡ j = omega arith in
     rw (← same) (ap (λ ys. g a ∷ ys) (same_later f g a (a + 1) n (omega arith) (λ k e. others k (λ d. e (d ∙ sym same)))))
 set_row f g a (suc n) (suc i) j h place others =

@@ -4,10 +4,10 @@ ghost use Rattle.std.specs.Prelude.{◌≡◌, ℕ, List, IfOk, IfErr};
 ghost use Rattle.image_read.specs.ElfImage.{ElfImageData, ElfReads};
 ghost use Rattle.image_read.specs.Image.{Reads, ExplainsRead};
 
+use crate::ReadError;
 use crate::elf::{ElfImage, read_elf};
 use crate::fat::FatImage;
 use crate::mach::MachImage;
-use crate::ReadError;
 use std::alloc::Global;
 
 /// What a file holds. Names and contents are borrowed from the bytes of the file.

@@ -5,7 +5,6 @@ ghost use Rattle.byte_core.specs.Number.{number_at, bytes_at};
 ghost use Rattle.pe_core.specs.Steps.{demand, number_or_short, within_or_short, field_at, address_width};
 
 use crate::pe_error::{Case, Error};
-
 pub use byte_core::{number_field, u8_field, u16_field, u32_field};
 
 /// Refuses the file in this way where the test doesn't hold.

@@ -12,6 +12,7 @@ use byte_core::{u16_field, u32_field, u64_field};
 use std::marker::Model;
 
 const HEADER_SIZE: usize = 64;
+
 const SECTION_ROW_SIZE: usize = 64;
 // The magic number, ELFCLASS64, ELFDATA2LSB and EV_CURRENT.
 const IDENT: [u8; 7] = [0x7f, 0x45, 0x4c, 0x46, 2, 1, 1];

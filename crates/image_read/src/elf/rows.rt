@@ -9,10 +9,15 @@ use crate::elf::ElfReloc;
 use byte_core::{u8_field, u16_field, u32_field, u64_field};
 
 pub const SHT_NULL: u32 = 0;
+
 pub const SHT_SYMTAB: u32 = 2;
+
 pub const SHT_STRTAB: u32 = 3;
+
 pub const SHT_RELA: u32 = 4;
+
 pub const SHT_NOBITS: u32 = 8;
+
 pub const SHT_REL: u32 = 9;
 
 /// The size of a symbol and of a relocation, in bytes.

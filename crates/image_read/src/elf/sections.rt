@@ -76,12 +76,7 @@ fn bare_sections<'a>(
     Ok(sections)
 }
 
-fn bare_section<'a>(
-    alloc: Global,
-    file: &ElfFile<'a>,
-    names: &'a [u8],
-    k: usize,
-) -> ElfSection<'a>
+fn bare_section<'a>(alloc: Global, file: &ElfFile<'a>, names: &'a [u8], k: usize) -> ElfSection<'a>
     requires section { IsSection file.now k }
     requires row { k < (header_of file.now).shnum }
     requires names { HoldsStrings file.now (header_of file.now).shstrndx names.now }

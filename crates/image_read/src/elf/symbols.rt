@@ -14,7 +14,9 @@ use std::alloc::{AllocError, Global};
 
 /// A symbol's row in the table has 32 bits where it is named.
 const ROWS_MAX: u64 = 0x1_0000_0000;
+
 const SHN_LORESERVE: u16 = 0xff00;
+
 const SHN_XINDEX: u16 = 0xffff;
 
 /// The symbol table that was found in section header `number`, with its strings.
