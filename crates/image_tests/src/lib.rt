@@ -1,0 +1,7 @@
+//! Tests of reading.
+#![tactic(auto)]
+
+#[cfg(test)]
+mod elf_tests;
+#[cfg(test)]
+mod small_files;
