@@ -1,5 +1,5 @@
 -- The pieces that are written one after the other are the file of the table.
-use Rattle.std.proofs.Common.{◌≡◌, ℕ, ◌+◌, ◌-◌, ◌*◌, ◌<◌, List, [], ◌∷◌, ◌++◌, length, map, refl, ap, sym, ◌∙◌, arith, append_assoc, append-nil, length-append, Bool, true, false, cond, suc, slice_get, Some, replicate, codes}
+use Rattle.std.proofs.Common.{◌≡◌, ℕ, ◌+◌, ◌-◌, ◌*◌, ◌<◌, ◌≤◌, List, [], ◌∷◌, ◌++◌, length, take, map, refl, ap, sym, ◌∙◌, arith, append_assoc, append-nil, length-append, Bool, true, false, cond, suc, slice_get, Some, replicate, codes}
 use Rattle.std.specs.Prelude.{flat_map, filter, sum_by, count_by, slice_index}
 use Rattle.std.specs.Int.{next_multiple_of}
 use Rattle.std.proofs.lemmas.Grind.{flat_map-append}
@@ -8,21 +8,27 @@ use Rattle.std.proofs.lemmas.List.Sums.{sum_by-cons}
 use Rattle.byte_core.specs.Number.{little_bytes}
 use Rattle.byte_core.specs.Fields.{field_bytes}
 use Rattle.byte_core.specs.LaidOut.{Aligned, LaysOut, end_of_aligned, laid_out}
-use Rattle.byte_core.proofs.LaidOut.{lays_bytes, lays_more, length-laid_out, end_of_aligned-append}
+use Rattle.byte_core.proofs.LaidOut.{lays_as, lays_bytes, lays_more, length-laid_out, end_of_aligned-append}
+use Rattle.byte_core.proofs.Writing.{filled_whole}
 use Rattle.byte_core.proofs.Standing.{length-rows}
 use Rattle.object_core.specs.declared.symbol.Symbol.{Symbol}
 use Rattle.object_core.specs.LinkTable.{ElfTable, ElfTableSection, ElfTableSymbol}
 use Rattle.object_core.specs.declared.relocation.Relocation.{Relocation}
+use Rattle.ir_core.specs.declared.target.BinaryFormat.TheVariants.{Elf}
+use Rattle.object_core.specs.Appending.{AreSections}
+use Rattle.object_core.specs.WellFormed.{IsFormedElf}
 use Rattle.object_core.specs.Object.{SectionData, ObjectData, is_local, is_global}
 use Rattle.object_core.specs.ElfRows.{elf_machine, elf_symbol, elf_section, elf_relocation, elf_table_of, row_in}
 use Rattle.object_elf.specs.Layout.{Part, strings_size, with_zero, string_bytes_of, is_relocated, section_names, symbol_names, parts_of, end_of_parts, headers_start}
 use Rattle.object_elf.specs.ElfHolds.{null_symbol, header_with, header_for, record_for}
 use Rattle.object_elf.specs.File.{relocation_row_bytes, header_bytes, section_row_bytes, symbol_row_bytes, symbol_rows_from, symbol_contents, string_contents, section_contents, relocation_contents, section_rows, contents_of, elf_file}
 use Rattle.object_elf.specs.Fitting.{FitsElf, HasContents}
+use Rattle.object_elf.specs.Plan.{rows_of}
 use Rattle.object_elf.specs.PlainCounts.{symbol_name_size, section_name_size}
 use Rattle.object_elf.specs.Writing.{chosen, chosen_names, name_size, names_size, rows_in_order, row_names, own_name, record_name, AreRowsOf, NameSymbols, record_by, record_bytes_by, records_at, has_relocations, contents_at, body_of}
 use Rattle.object_elf.proofs.PartCases.{length-parts_of}
-use Rattle.object_elf.proofs.Fit.{machine_is, flags_are}
+use Rattle.object_elf.proofs.Fit.{machine_is, flags_are, formed_names, table_has}
+use Rattle.object_elf.proofs.Planning.{rows_are_rows}
 use Rattle.object_elf.proofs.Tables.{relocated_is, front_count_is, own_names_are, record_names_are, chosen_counts, symbol_names_size_is, section_names_size_is}
 use Rattle.std.proofs.lemmas.Option.{get_or_from_slice_get}
 use Rattle.object_elf.proofs.Rows.{length-symbol_row_bytes}
@@ -266,3 +272,25 @@ parts_end o rows has same =
     ∙ names_end (elf_table_of o) 64
     ∙ ap (λ l. end_of_aligned 64 l + strings_size (section_names (elf_table_of o))) (sym same)
     ∙ ap (λ n. end_of_aligned 64 (body_of o rows) + n) (section_names_size_is o)
+
+-- the body of an object whose symbols have these rows is that of its table
+pub body_by : (o : ObjectData) (rows : List ℕ) → IsFormedElf o → rows ≡ rows_of o.symbols → body_of o rows ≡ table_body (elf_table_of o)
+body_by o rows formed e = ap (body_of o) e ∙ body_is o (rows_of o.symbols) (rows_are_rows o.symbols) (formed_names o formed (length o.symbols) refl)
+
+pub ends : (o : ObjectData) (rows : List ℕ) → o.format ≡ Elf → AreSections o.format o.sections o.content_sum → IsFormedElf o → rows ≡ rows_of o.symbols
+    → end_of_parts (parts_of (elf_table_of o)) ≡ end_of_aligned 64 (body_of o rows) + (43 + sum_by section_name_size o.sections)
+ends o rows elf sound formed e = parts_end o rows (table_has o elf sound) (body_by o rows formed e)
+
+-- the body has room where the parts have
+pub body_room : (o : ObjectData) (rows : List ℕ) (at n : ℕ) → o.format ≡ Elf → AreSections o.format o.sections o.content_sum → IsFormedElf o → rows ≡ rows_of o.symbols → at ≡ 64 → end_of_parts (parts_of (elf_table_of o)) ≤ n
+    → end_of_aligned at (body_of o rows) ≤ n
+body_room o rows at n elf sound formed e start room = omega (arith, ap (λ p. end_of_aligned p (body_of o rows)) start, ends o rows elf sound formed e, room)
+
+-- ---- the file of an object
+
+pub object_file : (o : ObjectData) (rows h body named padded file out : List ℕ) (end : ℕ) → FitsElf (elf_table_of o) → IsFormedElf o → rows ≡ rows_of o.symbols → h ≡ header_bytes (header_for (elf_table_of o)) → LaysOut h body (body_of o rows)
+    → named ≡ body ++ string_bytes_of (section_names (elf_table_of o)) → padded ≡ named ++ replicate (next_multiple_of (length named) 8 - length named) 0
+    → file ≡ padded ++ flat_map section_row_bytes (section_rows (parts_of (elf_table_of o))) → file ≡ take end out → length out ≡ end → out ≡ elf_file (elf_table_of o)
+object_file o rows h body named padded file out end fits formed e head laid names padding headers front whole =
+    let bytes = file_is (elf_table_of o) fits h body named padded file head (lays_as h body (body_of o rows) (table_body (elf_table_of o)) (body_by o rows formed e) laid) names padding headers in
+    filled_whole out (elf_file (elf_table_of o)) end (sym front ∙ bytes) whole

@@ -3,10 +3,14 @@
 ghost use Rattle.std.specs.Prelude.{◌≡◌, ℕ, ◌+◌, ◌*◌, ◌<◌, ◌≤◌, ◌^◌, Some, map, take, length, slice_get, sum_by, true, false, ◌∷◌, []};
 ghost use Rattle.std.specs.Int.{next_multiple_of};
 ghost use Rattle.byte_core.specs.LaidOut.{LaysOut, end_of_aligned};
+ghost use Rattle.ir_core.specs.declared.target.BinaryFormat.TheVariants.{Elf};
+ghost use Rattle.object_core.specs.ElfRows.{elf_table_of};
 ghost use Rattle.object_core.specs.Object.{SectionData};
 ghost use Rattle.object_core.specs.WellFormed.{IsFormedElf};
 ghost use Rattle.object_elf.specs.File.{symbol_contents};
+ghost use Rattle.object_elf.specs.Layout.{end_of_parts, parts_of};
 ghost use Rattle.object_elf.specs.Limits.{IsWithinLimits};
+ghost use Rattle.object_elf.specs.Plan.{rows_of};
 ghost use Rattle.object_elf.specs.PlainCounts.{plain_counts, symbol_name_size};
 ghost use Rattle.object_elf.specs.Writing.{body_of, NumbersFit, contents_at, FitRows, FitSizes, rows_in_order};
 
@@ -19,10 +23,12 @@ use object_core::{Object, Section};
 
 /// Writes contents, relocations, symbols and their names. The rows are those of the symbols.
 pub(crate) fn place_body(out: &mut [u8], at: usize, object: &Object, rows: &[u32]) -> usize
+    requires format { (object.now).format ≡ Elf }
     requires formed { IsFormedElf object.now }
     requires limits { IsWithinLimits (plain_counts object.now) }
-    requires count { length rows.now ≡ length (object.now).symbols }
-    requires room { end_of_aligned at (body_of object.now rows.now) ≤ length out.old }
+    requires rows { rows.now ≡ rows_of (object.now).symbols }
+    requires start { at ≡ 64 }
+    requires room { end_of_parts (parts_of (elf_table_of object.now)) ≤ length out.old }
     ensures bytes { LaysOut (take at out.old) (take result out.new) (body_of object.now rows.now) }
     ensures end { result ≡ end_of_aligned at (body_of object.now rows.now) }
     ensures len { length out.new ≡ length out.old }
