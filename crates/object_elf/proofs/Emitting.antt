@@ -1,5 +1,5 @@
 -- The pieces that are written one after the other are the file of the table.
-use Rattle.std.proofs.Common.{◌≡◌, ℕ, ◌+◌, ◌-◌, ◌<◌, List, [], ◌∷◌, ◌++◌, length, map, refl, ap, sym, ◌∙◌, arith, append_assoc, append-nil, length-append, Bool, true, false, cond, suc, slice_get, Some, replicate}
+use Rattle.std.proofs.Common.{◌≡◌, ℕ, ◌+◌, ◌-◌, ◌*◌, ◌<◌, ◌≤◌, List, [], ◌∷◌, ◌++◌, length, take, map, refl, ap, sym, ◌∙◌, arith, append_assoc, append-nil, length-append, Bool, true, false, cond, suc, slice_get, Some, replicate, codes}
 use Rattle.std.specs.Prelude.{flat_map, filter, sum_by, count_by, slice_index}
 use Rattle.std.specs.Int.{next_multiple_of}
 use Rattle.std.proofs.lemmas.Grind.{flat_map-append}
@@ -8,24 +8,32 @@ use Rattle.std.proofs.lemmas.List.Sums.{sum_by-cons}
 use Rattle.byte_core.specs.Number.{little_bytes}
 use Rattle.byte_core.specs.Fields.{field_bytes}
 use Rattle.byte_core.specs.LaidOut.{Aligned, LaysOut, end_of_aligned, laid_out}
-use Rattle.byte_core.proofs.LaidOut.{lays_bytes, lays_more, length-laid_out}
+use Rattle.byte_core.proofs.LaidOut.{lays_as, lays_bytes, lays_more, length-laid_out, end_of_aligned-append}
+use Rattle.byte_core.proofs.Writing.{filled_whole}
+use Rattle.byte_core.proofs.Standing.{length-rows}
 use Rattle.object_core.specs.declared.symbol.Symbol.{Symbol}
 use Rattle.object_core.specs.LinkTable.{ElfTable, ElfTableSection, ElfTableSymbol}
 use Rattle.object_core.specs.declared.relocation.Relocation.{Relocation}
+use Rattle.ir_core.specs.declared.target.BinaryFormat.TheVariants.{Elf}
+use Rattle.object_core.specs.Appending.{AreSections}
+use Rattle.object_core.specs.WellFormed.{IsFormedElf}
 use Rattle.object_core.specs.Object.{SectionData, ObjectData, is_local, is_global}
 use Rattle.object_core.specs.ElfRows.{elf_machine, elf_symbol, elf_section, elf_relocation, elf_table_of, row_in}
 use Rattle.object_elf.specs.Layout.{Part, strings_size, with_zero, string_bytes_of, is_relocated, section_names, symbol_names, parts_of, end_of_parts, headers_start}
-use Rattle.object_elf.specs.ElfHolds.{null_symbol, header_for, record_for}
+use Rattle.object_elf.specs.ElfHolds.{null_symbol, header_with, header_for, record_for}
 use Rattle.object_elf.specs.File.{relocation_row_bytes, header_bytes, section_row_bytes, symbol_row_bytes, symbol_rows_from, symbol_contents, string_contents, section_contents, relocation_contents, section_rows, contents_of, elf_file}
-use Rattle.object_elf.specs.Fitting.{FitsElf}
-use Rattle.object_elf.specs.Writing.{chosen, chosen_names, name_size, names_size, rows_in_order, row_names, AreRowsOf, NameSymbols, header_with, record_by, record_bytes_by, records_at, has_relocations, contents_at, body_of}
-use Rattle.object_elf.specs.declared.layout.PartHeader.{PartHeader}
-use Rattle.object_elf.specs.PartView.{part_view, part_name_size, part_name, with_end, with_padding}
-use Rattle.object_elf.proofs.PartCases.{names_of_parts, length-parts_of}
-use Rattle.object_elf.proofs.Fit.{machine_is, flags_are}
-use Rattle.object_elf.proofs.Tables.{relocated_is, front_count_is}
+use Rattle.object_elf.specs.Fitting.{FitsElf, HasContents}
+use Rattle.object_elf.specs.Plan.{rows_of}
+use Rattle.object_elf.specs.PlainCounts.{symbol_name_size, section_name_size}
+use Rattle.object_elf.specs.Writing.{chosen, chosen_names, name_size, names_size, rows_in_order, row_names, own_name, record_name, AreRowsOf, NameSymbols, record_by, record_bytes_by, records_at, has_relocations, contents_at, body_of}
+use Rattle.object_elf.proofs.PartCases.{length-parts_of}
+use Rattle.object_elf.proofs.Fit.{machine_is, flags_are, formed_names, table_has}
+use Rattle.object_elf.proofs.Planning.{rows_are_rows}
+use Rattle.object_elf.proofs.Tables.{relocated_is, front_count_is, own_names_are, record_names_are, chosen_counts, symbol_names_size_is, section_names_size_is}
 use Rattle.std.proofs.lemmas.Option.{get_or_from_slice_get}
-use Rattle.object_elf.proofs.Places.{whole_end_is, length-header_bytes}
+use Rattle.object_elf.proofs.Rows.{length-symbol_row_bytes}
+use Rattle.object_elf.proofs.Parts.{fit_by, length-symbol_rows_from, length-string_bytes_of}
+use Rattle.object_elf.proofs.Places.{whole_end_is, whole_end_by, length-header_bytes}
 
 -- ---- the symbol table
 
@@ -77,6 +85,9 @@ table_names ss old zero locals all z l a =
 abbrev pub table_body : ElfTable → List Aligned
 table_body t = map section_contents t.sections ++ map relocation_contents (filter is_relocated t.sections) ++ symbol_contents t.symbols ∷ string_contents (symbol_names t) ∷ []
 
+lays_as_new : (old new same : List ℕ) (cs : List Aligned) → same ≡ new → LaysOut old new cs → LaysOut old same cs
+lays_as_new old new same cs e f = record { bytes = e ∙ f.bytes }
+
 -- the stack note takes no bytes
 skip_note : (t : ElfTable) (h body : List ℕ) → LaysOut h body (table_body t) → LaysOut h (body ++ string_bytes_of (section_names t)) (contents_of t)
 unfolding contents_of laid_out
@@ -98,20 +109,18 @@ skip_note t h body s =
     lays_more h m2 (body ++ string_bytes_of (section_names t)) (cs ++ record { align = 1; bytes = [] } ∷ rs) (symbol_contents t.symbols ∷ string_contents (symbol_names t) ∷ string_contents (section_names t) ∷ []) front
     (lays_more m2 m3 (body ++ string_bytes_of (section_names t)) ts (string_contents (section_names t) ∷ []) third names)
 
-pub file_is : (t : ElfTable) → FitsElf t → (h body file : List ℕ) → h ≡ header_bytes (header_for t) → LaysOut h body (table_body t) → file ≡ with_end body (parts_of t) → file ≡ elf_file t
+pub file_is : (t : ElfTable) → FitsElf t → (h body named padded file : List ℕ) → h ≡ header_bytes (header_for t) → LaysOut h body (table_body t) → named ≡ body ++ string_bytes_of (section_names t)
+    → padded ≡ named ++ replicate (next_multiple_of (length named) 8 - length named) 0 → file ≡ padded ++ flat_map section_row_bytes (section_rows (parts_of t)) → file ≡ elf_file t
 unfolding elf_file
-file_is t f h body file e s q =
-    let named = body ++ string_bytes_of (section_names t) in
-    let all = skip_note t h body s in
+file_is t f h body named padded file e s n p r =
+    let all = lays_as_new h (body ++ string_bytes_of (section_names t)) named (contents_of t) n (skip_note t h body s) in
     let size : length h ≡ 64 = ap length e ∙ length-header_bytes (header_for t) refl in
     let end : length named ≡ end_of_parts (parts_of t) =
     ap length all.bytes ∙ length-append h (laid_out (length h) (contents_of t)) ∙ length-laid_out (length h) (contents_of t) ∙ ap (λ at. end_of_aligned at (contents_of t)) size ∙ whole_end_is t f in
     let padding : next_multiple_of (length named) 8 - length named ≡ headers_start t - end_of_parts (parts_of t) = ap (λ n. next_multiple_of n 8 - n) end in
     let contents : named ≡ header_bytes (header_for t) ++ laid_out 64 (contents_of t) = all.bytes ∙ ap (λ at. h ++ laid_out at (contents_of t)) size ∙ ap (λ l. l ++ laid_out 64 (contents_of t)) e in
-    let names : body ++ string_bytes_of (map part_name (parts_of t)) ≡ named = ap (λ l. body ++ string_bytes_of l) (names_of_parts t) in
-    q
-    ∙ ap (λ l. with_padding l ++ flat_map section_row_bytes (section_rows (parts_of t))) names
-    ∙ ap (λ l. l ++ flat_map section_row_bytes (section_rows (parts_of t))) (ap (λ n. named ++ replicate n 0) padding ∙ ap (λ l. l ++ replicate (headers_start t - end_of_parts (parts_of t)) 0) contents)
+    r
+    ∙ ap (λ l. l ++ flat_map section_row_bytes (section_rows (parts_of t))) (p ∙ ap (λ n. named ++ replicate n 0) padding ∙ ap (λ l. l ++ replicate (headers_start t - end_of_parts (parts_of t)) 0) contents)
     ∙ append_assoc (header_bytes (header_for t) ++ laid_out 64 (contents_of t)) (replicate (headers_start t - end_of_parts (parts_of t)) 0) (flat_map section_row_bytes (section_rows (parts_of t)))
     ∙ append_assoc (header_bytes (header_for t)) (laid_out 64 (contents_of t)) (replicate (headers_start t - end_of_parts (parts_of t)) 0 ++ flat_map section_row_bytes (section_rows (parts_of t)))
 
@@ -164,24 +173,124 @@ body_laid o rows h o1 o2 o3 o4 c r s n =
     let names = string_contents (row_names (rows_in_order o.symbols)) ∷ [] in
     lays_more h o2 o4 (cs ++ rs) (symbol_contents (rows_in_order o.symbols) ∷ names) (lays_more h o1 o2 cs rs c r) (lays_more o2 o3 o4 table names s (lays_bytes o3 o4 (string_bytes_of (row_names (rows_in_order o.symbols))) n))
 
--- ---- the numbers of the layout
+-- ---- names of the sections
 
-pub part_count : (t : ElfTable) (parts : List PartHeader) (count : ℕ) → count ≡ length parts → map part_view parts ≡ parts_of t → count ≡ length (parts_of t)
-part_count t parts count n e = n ∙ sym (length-map parts part_view) ∙ ap length e
+join : (old z a n r t : List ℕ) → ((((old ++ z) ++ a) ++ n) ++ r) ++ t ≡ old ++ (z ++ ((a ++ (n ++ r)) ++ t))
+join old z a n r t = simp append_assoc
+
+abbrev pub table_names_of : List (List ℕ)
+table_names_of = codes ".symtab" ∷ codes ".strtab" ∷ codes ".shstrtab" ∷ []
+
+names_are : (o : ObjectData) → section_names (elf_table_of o) ≡ map own_name o.sections ++ codes ".note.GNU-stack" ∷ map record_name (filter has_relocations o.sections) ++ table_names_of
+unfolding section_names elf_table_of
+names_are o = rw (own_names_are o.symbols o.sections, record_names_are o.symbols o.sections) refl
+
+-- the names that are written one after the other
+pub section_texts : (o : ObjectData) (old zero own note records all : List ℕ) → zero ≡ old ++ 0 ∷ [] → own ≡ zero ++ flat_map with_zero (map own_name o.sections) → note ≡ own ++ with_zero (codes ".note.GNU-stack")
+    → records ≡ note ++ flat_map with_zero (map record_name (filter has_relocations o.sections)) → all ≡ records ++ flat_map with_zero table_names_of → all ≡ old ++ string_bytes_of (section_names (elf_table_of o))
+unfolding string_bytes_of
+section_texts o old zero own note records all z a n r t =
+    let own_names = map own_name o.sections in
+    let rs = map record_name (filter has_relocations o.sections) in
+    let name = with_zero (codes ".note.GNU-stack") in
+    let texts = flat_map with_zero own_names in
+    let more = flat_map with_zero rs in
+    let tables = flat_map with_zero table_names_of in
+    let bytes : flat_map with_zero (section_names (elf_table_of o)) ≡ (texts ++ (name ++ more)) ++ tables =
+    ap (flat_map with_zero) (names_are o)
+    ∙ flat_map-append with_zero (own_names ++ codes ".note.GNU-stack" ∷ rs) table_names_of
+    ∙ ap (λ l. l ++ tables) (flat_map-append with_zero own_names (codes ".note.GNU-stack" ∷ rs)) in
+    t
+    ∙ ap (λ l. l ++ tables) (r ∙ ap (λ l. l ++ more) (n ∙ ap (λ l. l ++ name) (a ∙ ap (λ l. l ++ texts) z)))
+    ∙ join old (0 ∷ []) texts name more tables
+    ∙ ap (λ l. old ++ (0 ∷ [] ++ l)) (sym bytes)
+
+-- ---- the numbers of the layout
 
 pub part_count_is : (o : ObjectData) → length (parts_of (elf_table_of o)) ≡ length o.sections + count_by has_relocations o.sections + 4
 part_count_is o = omega (arith, length-parts_of (elf_table_of o), front_count_is o)
-
-pub start_is : (t : ElfTable) (parts : List PartHeader) (start : ℕ) → start ≡ next_multiple_of (end_of_parts (map part_view parts)) 8 → map part_view parts ≡ parts_of t → start ≡ headers_start t
-start_is t parts start n e = n ∙ ap (λ ps. next_multiple_of (end_of_parts ps) 8) e
 
 pub header_is_of : (o : ObjectData) (machine flags start count : ℕ) → machine ≡ elf_machine o.architecture → flags ≡ o.e_flags → start ≡ headers_start (elf_table_of o) → count ≡ length (parts_of (elf_table_of o))
     → header_with machine flags start count ≡ header_for (elf_table_of o)
 header_is_of o machine flags start count m f s n = rw (m, f, s, n, machine_is o, flags_are o) refl
 
-part_names_sum : (ps : List Part) → sum_by part_name_size ps ≡ sum_by (λ name. length name + 1) (map part_name ps)
-part_names_sum [] = refl
-part_names_sum (p ∷ ps) = omega (arith, sum_by-cons part_name_size p ps, sum_by-cons (λ (name : List ℕ). length name + 1) p.name (map part_name ps), part_names_sum ps)
+-- ---- where the pieces end
 
-pub part_names_are : (t : ElfTable) (parts : List PartHeader) → map part_view parts ≡ parts_of t → 1 + sum_by part_name_size (map part_view parts) ≡ strings_size (section_names t)
-part_names_are t parts e = ap (λ ps. 1 + sum_by part_name_size ps) e ∙ ap (λ n. 1 + n) (part_names_sum (parts_of t)) ∙ ap strings_size (names_of_parts t)
+length-in_order : (ss : List Symbol) → length (rows_in_order ss) ≡ length ss
+length-in_order ss = omega (arith, ap length (in_order ss), length-append (chosen true ss) (chosen false ss), chosen_counts ss)
+
+length-table : (ss : List Symbol) → length (symbol_contents (rows_in_order ss)).bytes ≡ 24 * (length ss + 1)
+length-table ss =
+    omega (arith, length-rows symbol_row_bytes 24 length-symbol_row_bytes (null_symbol ∷ symbol_rows_from 1 (rows_in_order ss)), length-symbol_rows_from 1 (rows_in_order ss), length-in_order ss)
+
+length-texts : (o : ObjectData) → length (string_bytes_of (row_names (rows_in_order o.symbols))) ≡ 1 + sum_by symbol_name_size o.symbols
+unfolding elf_table_of
+length-texts o = length-string_bytes_of (row_names (rows_in_order o.symbols)) ∙ symbol_names_size_is o
+
+-- where the body ends
+pub body_end : (o : ObjectData) (rows : List ℕ) (at : ℕ)
+    → end_of_aligned at (body_of o rows) ≡ next_multiple_of (end_of_aligned (end_of_aligned at (map contents_at o.sections)) (map (records_at rows) (filter has_relocations o.sections))) 8 + 24 * (length o.symbols + 1) + (1 + sum_by symbol_name_size o.symbols)
+unfolding end_of_aligned
+body_end o rows at =
+    let cs = map contents_at o.sections in
+    let rs = map (records_at rows) (filter has_relocations o.sections) in
+    let tables = symbol_contents (rows_in_order o.symbols) ∷ string_contents (row_names (rows_in_order o.symbols)) ∷ [] in
+    omega (
+      arith,
+      end_of_aligned-append at (cs ++ rs) tables,
+      ap (λ e. end_of_aligned e tables) (end_of_aligned-append at cs rs),
+      length-table o.symbols,
+      length-texts o,
+    )
+
+note_end : (e : ℕ) (rs : List Aligned) → end_of_aligned e (record { align = 1; bytes = [] } ∷ rs) ≡ end_of_aligned e rs
+unfolding end_of_aligned
+note_end e rs = let same : next_multiple_of e 1 + 0 ≡ e = omega arith in ap (λ at. end_of_aligned at rs) same
+
+-- the names of the sections are behind the body
+names_end : (t : ElfTable) (at : ℕ) → end_of_aligned at (contents_of t) ≡ end_of_aligned at (table_body t) + strings_size (section_names t)
+unfolding contents_of end_of_aligned
+names_end t at =
+    let cs = map section_contents t.sections in
+    let rs = map relocation_contents (filter is_relocated t.sections) in
+    let tables = symbol_contents t.symbols ∷ string_contents (symbol_names t) ∷ [] in
+    let all = symbol_contents t.symbols ∷ string_contents (symbol_names t) ∷ string_contents (section_names t) ∷ [] in
+    let note = record { align = 1; bytes = [] } ∷ rs in
+    let front : end_of_aligned at (cs ++ note) ≡ end_of_aligned at (cs ++ rs) = end_of_aligned-append at cs note ∙ note_end (end_of_aligned at cs) rs ∙ sym (end_of_aligned-append at cs rs) in
+    omega (
+      arith,
+      end_of_aligned-append at (cs ++ note) all ∙ ap (λ e. end_of_aligned e all) front,
+      end_of_aligned-append at (cs ++ rs) tables,
+      length-string_bytes_of (section_names t),
+    )
+
+-- where the parts of an object's file end
+pub parts_end : (o : ObjectData) (rows : List ℕ) → ((k : ℕ) (s : ElfTableSection) → slice_get (elf_table_of o).sections k ≡ Some s → HasContents s) → body_of o rows ≡ table_body (elf_table_of o)
+    → end_of_parts (parts_of (elf_table_of o)) ≡ end_of_aligned 64 (body_of o rows) + (43 + sum_by section_name_size o.sections)
+parts_end o rows has same =
+    sym (whole_end_by (elf_table_of o) (fit_by (elf_table_of o) has))
+    ∙ names_end (elf_table_of o) 64
+    ∙ ap (λ l. end_of_aligned 64 l + strings_size (section_names (elf_table_of o))) (sym same)
+    ∙ ap (λ n. end_of_aligned 64 (body_of o rows) + n) (section_names_size_is o)
+
+-- the body of an object whose symbols have these rows is that of its table
+pub body_by : (o : ObjectData) (rows : List ℕ) → IsFormedElf o → rows ≡ rows_of o.symbols → body_of o rows ≡ table_body (elf_table_of o)
+body_by o rows formed e = ap (body_of o) e ∙ body_is o (rows_of o.symbols) (rows_are_rows o.symbols) (formed_names o formed (length o.symbols) refl)
+
+pub ends : (o : ObjectData) (rows : List ℕ) → o.format ≡ Elf → AreSections o.format o.sections o.content_sum → IsFormedElf o → rows ≡ rows_of o.symbols
+    → end_of_parts (parts_of (elf_table_of o)) ≡ end_of_aligned 64 (body_of o rows) + (43 + sum_by section_name_size o.sections)
+ends o rows elf sound formed e = parts_end o rows (table_has o elf sound) (body_by o rows formed e)
+
+-- the body has room where the parts have
+pub body_room : (o : ObjectData) (rows : List ℕ) (at n : ℕ) → o.format ≡ Elf → AreSections o.format o.sections o.content_sum → IsFormedElf o → rows ≡ rows_of o.symbols → at ≡ 64 → end_of_parts (parts_of (elf_table_of o)) ≤ n
+    → end_of_aligned at (body_of o rows) ≤ n
+body_room o rows at n elf sound formed e start room = omega (arith, ap (λ p. end_of_aligned p (body_of o rows)) start, ends o rows elf sound formed e, room)
+
+-- ---- the file of an object
+
+pub object_file : (o : ObjectData) (rows h body named padded file out : List ℕ) (end : ℕ) → FitsElf (elf_table_of o) → IsFormedElf o → rows ≡ rows_of o.symbols → h ≡ header_bytes (header_for (elf_table_of o)) → LaysOut h body (body_of o rows)
+    → named ≡ body ++ string_bytes_of (section_names (elf_table_of o)) → padded ≡ named ++ replicate (next_multiple_of (length named) 8 - length named) 0
+    → file ≡ padded ++ flat_map section_row_bytes (section_rows (parts_of (elf_table_of o))) → file ≡ take end out → length out ≡ end → out ≡ elf_file (elf_table_of o)
+object_file o rows h body named padded file out end fits formed e head laid names padding headers front whole =
+    let bytes = file_is (elf_table_of o) fits h body named padded file head (lays_as h body (body_of o rows) (table_body (elf_table_of o)) (body_by o rows formed e) laid) names padding headers in
+    filled_whole out (elf_file (elf_table_of o)) end (sym front ∙ bytes) whole

@@ -1,98 +1,276 @@
 -- Loops over the parts of a file.
-use Rattle.std.proofs.Common.{◌≡◌, ℕ, ◌+◌, ◌<◌, ◌≤◌, ◌^◌, List, [], ◌∷◌, ◌++◌, length, drop, get_or, map, refl, ap, sym, ◌∙◌, arith, Bool, true, false, cond, Option, Some, None, append_assoc, append-nil}
-use Rattle.std.specs.Prelude.{fold, flat_map, sum_by, MatchOption, IsSome}
+use Rattle.std.proofs.Common.{◌≡◌, ℕ, ◌+◌, ◌*◌, ◌<◌, ◌≤◌, ◌^◌, List, [], ◌∷◌, ◌++◌, length, take, drop, get_or, map, refl, ap, sym, ◌∙◌, arith, Bool, true, false, cond, Option, Some, None, slice_get, append_assoc, append-nil, length-append, length-take-le, take-append-drop}
+use Rattle.std.specs.Prelude.{fold, filter, flat_map, sum_by, slice_index, MatchOption, IsSome}
+use Rattle.std.specs.List.{enumerate_from}
 use Rattle.std.specs.Int.{next_multiple_of}
-use Rattle.std.proofs.lemmas.List.Sums.{sum_by-cons}
-use Rattle.std.proofs.lemmas.List.{drop_all, drop_more, map-append}
+use Rattle.std.proofs.lemmas.Grind.{flat_map-append}
+use Rattle.std.proofs.lemmas.List.{take_more, drop_more, map-append, length-map}
+use Rattle.std.proofs.lemmas.List.Sums.{sum_by-cons, sum_by-append, fold-append}
+use Rattle.byte_core.proofs.Lists.{item_take, get_within, filter_append}
+use Rattle.std.proofs.lemmas.Option.{get_or_from_slice_get}
+use Rattle.object_core.specs.Object.{SectionData}
 use Rattle.object_elf.specs.declared.layout.PartHeader.{PartHeader}
-use Rattle.object_elf.specs.Layout.{Part, is_stored, start_after, end_after, end_of_parts}
+use Rattle.object_elf.specs.declared.next_row.NextRow.{NextRow}
+use Rattle.object_elf.specs.Layout.{Part, is_stored, start_after, end_after, strings_size, section_names, parts_of}
 use Rattle.object_elf.specs.ElfHolds.{null_section}
 use Rattle.object_elf.specs.File.{section_row_bytes, section_row_with, section_rows, section_rows_from}
-use Rattle.object_elf.specs.PartView.{part_view, part_name_size}
+use Rattle.object_elf.specs.Plan.{places_of}
+use Rattle.object_elf.specs.Writing.{has_relocations}
+use Rattle.object_elf.specs.PartView.{part_view, part_name, part_name_size, has_records, relocation_part_of, relocation_parts_from, starts_from, PushesPlaces, rows_at, PlacesRows, HasRoom}
+use Rattle.object_elf.proofs.NameLoops.{get_drop}
+use Rattle.object_elf.proofs.Planning.{drop_next, index_first, length-places_of, places_are}
+use Rattle.object_elf.proofs.PartCases.{names_of_parts}
+use Rattle.object_core.specs.LinkTable.{ElfTable}
 
-pub ends_all : (parts : List PartHeader) (i end : ℕ) → length parts ≤ i → fold end_after end (map part_view (drop i parts)) ≡ fold end_after 64 (map part_view parts) → end ≡ end_of_parts (map part_view parts)
-unfolding end_of_parts
-ends_all parts i end h e = ap (λ left. fold end_after end (map part_view left)) (sym (drop_all i parts h)) ∙ e
+-- ---- a list up to an element of it, and behind it
+
+get_take : {X : Type 0} (xs : List X) (k : ℕ) (x : X) → slice_get xs k ≡ Some x → take (k + 1) xs ≡ take k xs ++ x ∷ []
+get_take xs k x e = item_take xs k x (get_within xs k x e) (sym (get_or_from_slice_get xs k x x e))
+
+pub map_next : {X Y : Type 0} (f : X → Y) (xs : List X) (k : ℕ) (x : X) → slice_get xs k ≡ Some x → map f (take (k + 1) xs) ≡ map f (take k xs) ++ f x ∷ []
+map_next f xs k x e = ap (map f) (get_take xs k x e) ∙ map-append f (take k xs) (x ∷ [])
+
+pub split_at : {X : Type 0} (xs : List X) (k : ℕ) (x : X) → slice_get xs k ≡ Some x → xs ≡ take k xs ++ x ∷ drop (k + 1) xs
+split_at xs k x e = sym (take-append-drop k xs) ∙ ap (λ l. take k xs ++ l) (get_drop xs k x e)
+
+pub map_split : {X Y : Type 0} (f : X → Y) (xs : List X) (k : ℕ) (x : X) → slice_get xs k ≡ Some x → map f xs ≡ map f (take k xs) ++ f x ∷ map f (drop (k + 1) xs)
+map_split f xs k x e = ap (map f) (split_at xs k x e) ∙ map-append f (take k xs) (x ∷ drop (k + 1) xs)
+
+pub length-map_take : {X Y : Type 0} (f : X → Y) (xs : List X) (k : ℕ) → k ≤ length xs → length (map f (take k xs)) ≡ k
+length-map_take f xs k h = length-map (take k xs) f ∙ length-take-le k xs h
+
+pub view_next : (parts : List PartHeader) (k : ℕ) (d : PartHeader) → k < length parts → map part_view (take (k + 1) parts) ≡ map part_view (take k parts) ++ part_view (get_or parts k d) ∷ []
+view_next parts k d h = ap (map part_view) (take_more parts k d h) ∙ map-append part_view (take k parts) (get_or parts k d ∷ [])
+
+pub view_split : (parts : List PartHeader) (k : ℕ) (d : PartHeader) → k < length parts → map part_view parts ≡ map part_view (take k parts) ++ part_view (get_or parts k d) ∷ map part_view (drop (k + 1) parts)
+view_split parts k d h =
+    ap (map part_view) (sym (take-append-drop k parts) ∙ ap (λ l. take k parts ++ l) (drop_more parts k d h)) ∙ map-append part_view (take k parts) (get_or parts k d ∷ drop (k + 1) parts)
+
+-- ---- the parts of relocations
+
+enumerate_append : {X : Type 0} (n : ℕ) (xs ys : List X) → enumerate_from n (xs ++ ys) ≡ enumerate_from n xs ++ enumerate_from (n + length xs) ys
+enumerate_append n [] ys = let same : n + 0 ≡ n = omega arith in rw same refl
+enumerate_append n (x ∷ xs) ys = let same : n + 1 + length xs ≡ n + length (x ∷ xs) = omega arith in rw (enumerate_append (n + 1) xs ys, same) refl
+
+from_append : (link n : ℕ) (xs ys : List SectionData) → relocation_parts_from link n (xs ++ ys) ≡ relocation_parts_from link n xs ++ relocation_parts_from link (n + length xs) ys
+from_append link n xs ys =
+    ap (λ l. map (relocation_part_of link) (filter has_records l)) (enumerate_append n xs ys)
+    ∙ ap (map (relocation_part_of link)) (filter_append has_records (enumerate_from n xs) (enumerate_from (n + length xs) ys))
+    ∙ map-append (relocation_part_of link) (filter has_records (enumerate_from n xs)) (filter has_records (enumerate_from (n + length xs) ys))
+
+from_some : (link n : ℕ) (s : SectionData) (xs : List SectionData) → has_relocations s ≡ true → relocation_parts_from link n (s ∷ xs) ≡ relocation_part_of link (n, s) ∷ relocation_parts_from link (n + 1) xs
+from_some link n s xs t = rw t refl
+
+from_none : (link n : ℕ) (s : SectionData) → has_relocations s ≡ false → relocation_parts_from link n (s ∷ []) ≡ []
+from_none link n s t = rw t refl
+
+row_of_section : (xs : List SectionData) (k : ℕ) (s : SectionData) → slice_get xs k ≡ Some s → 1 + length (take k xs) ≡ k + 1
+row_of_section xs k s e = omega (arith, length-take-le k xs (omega (arith, get_within xs k s e)))
+
+pub from_next : (link : ℕ) (xs : List SectionData) (k : ℕ) (s : SectionData) → slice_get xs k ≡ Some s → has_relocations s ≡ true
+    → relocation_parts_from link 1 (take (k + 1) xs) ≡ relocation_parts_from link 1 (take k xs) ++ relocation_part_of link (k + 1, s) ∷ []
+from_next link xs k s e t =
+    ap (relocation_parts_from link 1) (get_take xs k s e)
+    ∙ from_append link 1 (take k xs) (s ∷ [])
+    ∙ ap (λ l. relocation_parts_from link 1 (take k xs) ++ l) (from_some link (1 + length (take k xs)) s [] t ∙ ap (λ n. relocation_part_of link (n, s) ∷ []) (row_of_section xs k s e))
+
+pub from_passed : (link : ℕ) (xs : List SectionData) (k : ℕ) (s : SectionData) → slice_get xs k ≡ Some s → has_relocations s ≡ false → relocation_parts_from link 1 (take (k + 1) xs) ≡ relocation_parts_from link 1 (take k xs)
+from_passed link xs k s e t =
+    ap (relocation_parts_from link 1) (get_take xs k s e)
+    ∙ from_append link 1 (take k xs) (s ∷ [])
+    ∙ ap (λ l. relocation_parts_from link 1 (take k xs) ++ l) (from_none link (1 + length (take k xs)) s t)
+    ∙ append-nil (relocation_parts_from link 1 (take k xs))
+
+pub from_split : (link : ℕ) (xs : List SectionData) (k : ℕ) (s : SectionData) → slice_get xs k ≡ Some s → has_relocations s ≡ true
+    → relocation_parts_from link 1 xs ≡ relocation_parts_from link 1 (take k xs) ++ relocation_part_of link (k + 1, s) ∷ relocation_parts_from link (k + 1 + 1) (drop (k + 1) xs)
+from_split link xs k s e t =
+    ap (relocation_parts_from link 1) (split_at xs k s e)
+    ∙ from_append link 1 (take k xs) (s ∷ drop (k + 1) xs)
+    ∙ ap (λ l. relocation_parts_from link 1 (take k xs) ++ l)
+    (from_some link (1 + length (take k xs)) s (drop (k + 1) xs) t ∙ ap (λ n. relocation_part_of link (n, s) ∷ relocation_parts_from link (n + 1) (drop (k + 1) xs)) (row_of_section xs k s e))
+
+-- ---- places that are appended
 
 stored_or_not : (b : Bool) (end : ℕ) (p : Part) → end ≤ cond b (next_multiple_of end p.align + p.size) end
 stored_or_not true end p = omega arith
 stored_or_not false end p = omega arith
 
-start_within : (b : Bool) (end : ℕ) (p : Part) → cond b (next_multiple_of end p.align) end ≤ cond b (next_multiple_of end p.align + p.size) end
-start_within true end p = omega arith
-start_within false end p = omega arith
-
--- ---- the places of a part have room where those of all parts have
-
 pub end_after-le : (end : ℕ) (p : Part) → end ≤ end_after end p
 end_after-le end p = stored_or_not (is_stored p) end p
-
-pub start_after-le : (end : ℕ) (p : Part) → start_after end p ≤ end_after end p
-start_after-le end p = start_within (is_stored p) end p
 
 pub ends-le : (end : ℕ) (ps : List Part) → end ≤ fold end_after end ps
 ends-le end [] = omega arith
 ends-le end (p ∷ ps) = omega (arith, end_after-le end p, ends-le (end_after end p) ps)
 
-pub part_next : (parts : List PartHeader) (i : ℕ) (d : PartHeader) → i < length parts → map part_view (drop i parts) ≡ part_view (get_or parts i d) ∷ map part_view (drop (i + 1) parts)
-part_next parts i d h = ap (map part_view) (drop_more parts i d h)
+starts-append : (end : ℕ) (ps qs : List Part) → starts_from end (ps ++ qs) ≡ starts_from end ps ++ starts_from (fold end_after end ps) qs
+unfolding starts_from
+starts-append end [] qs = refl
+starts-append end (p ∷ ps) qs = ap (λ l. start_after end p ∷ l) (starts-append (end_after end p) ps qs)
 
--- a place below 2 ^ 64 is there, and it is what was asked for
-pub place_some : (r : Option ℕ) (n : ℕ) → MatchOption r (2 ^ 64 ≤ n) (λ x. x ≡ n) → n < 2 ^ 64 → IsSome r
-place_some None n m h = absurd (omega arith)
-place_some (Some x) n m h = refl
+pub pushes_none : (old : List ℕ) (end : ℕ) → PushesPlaces old old end end []
+unfolding starts_from
+pushes_none old end = record { places = sym (append-nil old); end = refl }
+
+pub pushes_one : (old new : List ℕ) (end start next : ℕ) (p : Part) → start ≡ start_after end p → next ≡ end_after end p → new ≡ old ++ start ∷ [] → PushesPlaces old new end next (p ∷ [])
+unfolding starts_from
+pushes_one old new end start next p s n w = record { places = w ∙ ap (λ x. old ++ x ∷ []) s; end = n }
+
+pub pushes_more : (a b c : List ℕ) (x y z : ℕ) (ps qs all : List Part) → PushesPlaces a b x y ps → PushesPlaces b c y z qs → all ≡ ps ++ qs → PushesPlaces a c x z all
+pushes_more a b c x y z ps qs all f g w =
+    rw w
+    (record {
+      places =
+          g.places
+          ∙ ap (λ l. l ++ starts_from y qs) f.places
+          ∙ append_assoc a (starts_from x ps) (starts_from y qs)
+          ∙ ap (λ n. a ++ (starts_from x ps ++ starts_from n qs)) f.end
+          ∙ ap (λ l. a ++ l) (sym (starts-append x ps qs));
+      end = g.end ∙ ap (λ n. fold end_after n qs) f.end ∙ sym (fold-append end_after x ps qs);
+    })
+
+-- ---- headers that are written
+
+rows_at-append : (places : List ℕ) (n name : ℕ) (ps qs : List Part) → rows_at places n name (ps ++ qs) ≡ rows_at places n name ps ++ rows_at places (n + length ps) (name + sum_by part_name_size ps) qs
+unfolding rows_at
+rows_at-append places n name [] qs =
+    let number : n + 0 ≡ n = omega arith in
+    let place : name + 0 ≡ name = omega arith in
+    rw (number, place) refl
+rows_at-append places n name (p ∷ ps) qs =
+    let number : n + 1 + length ps ≡ n + length (p ∷ ps) = omega arith in
+    let place : name + (length p.name + 1) + sum_by part_name_size ps ≡ name + sum_by part_name_size (p ∷ ps) = omega (arith, sum_by-cons part_name_size p ps) in
+    rw (rows_at-append places (n + 1) (name + (length p.name + 1)) ps qs, number, place) refl
+
+abbrev bytes_at : List ℕ → ℕ → ℕ → List Part → List ℕ
+bytes_at places n name ps = flat_map section_row_bytes (rows_at places n name ps)
+
+pub rows_none : (places : List ℕ) (n : ℕ) (out : List ℕ) (from : NextRow) → PlacesRows places n out out from from []
+unfolding rows_at
+rows_none places n out from = record { rows = sym (append-nil (take from.at out)); at = omega arith; name = omega arith; len = refl }
+
+pub rows_one : (places : List ℕ) (n : ℕ) (out new : List ℕ) (at name next start : ℕ) (p : Part) → start ≡ slice_index places n → take next new ≡ take at out ++ section_row_bytes (section_row_with name start p) → next ≡ at + 64
+    → length new ≡ length out → PlacesRows places n out new (record { at = at; name = name }) (record { at = next; name = name + (length p.name + 1) }) (p ∷ [])
+unfolding rows_at
+rows_one places n out new at name next start p s r e l = record {
+  rows = r ∙ ap (λ l. take at out ++ l) (ap (λ x. section_row_bytes (section_row_with name x p)) s ∙ sym (append-nil (section_row_bytes (section_row_with name (slice_index places n) p))));
+  at = omega (arith, e);
+  name = omega (arith, sum_by-cons part_name_size p []);
+  len = l;
+}
+
+pub rows_more : (places : List ℕ) (n m : ℕ) (a b c : List ℕ) (x y z : NextRow) (ps qs all : List Part) → PlacesRows places n a b x y ps → PlacesRows places m b c y z qs → m ≡ n + length ps → all ≡ ps ++ qs → PlacesRows places n a c x z all
+rows_more places n m a b c x y z ps qs all f g e w =
+    let joined : bytes_at places n x.name ps ++ bytes_at places m y.name qs ≡ bytes_at places n x.name (ps ++ qs) =
+    ap (λ k. bytes_at places n x.name ps ++ bytes_at places k y.name qs) e
+    ∙ ap (λ k. bytes_at places n x.name ps ++ bytes_at places (n + length ps) k qs) f.name
+    ∙ sym (flat_map-append section_row_bytes (rows_at places n x.name ps) (rows_at places (n + length ps) (x.name + sum_by part_name_size ps) qs))
+    ∙ ap (flat_map section_row_bytes) (sym (rows_at-append places n x.name ps qs)) in
+    rw w
+    (record {
+      rows = g.rows ∙ ap (λ l. l ++ bytes_at places m y.name qs) f.rows ∙ append_assoc (take x.at a) (bytes_at places n x.name ps) (bytes_at places m y.name qs) ∙ ap (λ l. take x.at a ++ l) joined;
+      at = omega (arith, f.at, g.at, length-append ps qs);
+      name = omega (arith, f.name, g.name, sum_by-append part_name_size ps qs);
+      len = g.len ∙ f.len;
+    })
+
+-- ---- the room for what is left
+
+pub room_more : (places : List ℕ) (n m : ℕ) (a b : List ℕ) (x y : NextRow) (ps qs all : List Part) → HasRoom places n a x all → PlacesRows places n a b x y ps → m ≡ n + length ps → all ≡ ps ++ qs → HasRoom places m b y qs
+room_more places n m a b x y ps qs all h f e w =
+    let count : length all ≡ length ps + length qs = ap length w ∙ length-append ps qs in
+    let names : sum_by part_name_size all ≡ sum_by part_name_size ps + sum_by part_name_size qs = ap (sum_by part_name_size) w ∙ sum_by-append part_name_size ps qs in
+    record {
+      at = omega (arith, h.at, f.at, f.len, count);
+      name = omega (arith, h.name, f.name, names);
+      each = omega (arith, h.each, e, count);
+    }
+
+pub room_front : (places : List ℕ) (n : ℕ) (a : List ℕ) (x : NextRow) (ps qs all : List Part) → HasRoom places n a x all → all ≡ ps ++ qs → HasRoom places n a x ps
+room_front places n a x ps qs all h w =
+    let count : length all ≡ length ps + length qs = ap length w ∙ length-append ps qs in
+    let names : sum_by part_name_size all ≡ sum_by part_name_size ps + sum_by part_name_size qs = ap (sum_by part_name_size) w ∙ sum_by-append part_name_size ps qs in
+    record { at = omega (arith, h.at, count); name = omega (arith, h.name, names); each = omega (arith, h.each, count) }
+
+-- the next part has room
+pub room_next : (places : List ℕ) (n m : ℕ) (a b : List ℕ) (x y : NextRow) (p : Part) (ps qs all : List Part) → HasRoom places n a x all → PlacesRows places n a b x y ps → m ≡ n + length ps → all ≡ ps ++ p ∷ qs → HasRoom places m b y (p ∷ [])
+room_next places n m a b x y p ps qs all h f e w = room_front places m b y (p ∷ []) qs (p ∷ qs) (room_more places n m a b x y ps (p ∷ qs) all h f e w) refl
+
+-- ---- all headers
+
+rows_by_places : (places : List ℕ) (k name end : ℕ) (ps : List Part) → drop k places ≡ starts_from end ps → rows_at places k name ps ≡ section_rows_from name end ps
+unfolding rows_at starts_from section_rows_from
+rows_by_places places k name end [] e = refl
+rows_by_places places k name end (p ∷ ps) e =
+    ap (λ x. section_row_with name x p ∷ rows_at places (k + 1) (name + (length p.name + 1)) ps) (index_first places k (start_after end p) (starts_from (end_after end p) ps) e)
+    ∙ ap (λ l. section_row_with name (start_after end p) p ∷ l) (rows_by_places places (k + 1) (name + (length p.name + 1)) (end_after end p) ps (drop_next places k (start_after end p) (starts_from (end_after end p) ps) e))
+
+-- the null header and those of all parts
+pub rows_whole : (places out mid new : List ℕ) (at : ℕ) (from to : NextRow) (ps : List Part) → places ≡ places_of ps → from.name ≡ 1 → take from.at mid ≡ take at out ++ section_row_bytes null_section → PlacesRows places 0 mid new from to ps
+    → take to.at new ≡ take at out ++ flat_map section_row_bytes (section_rows ps)
+rows_whole places out mid new at from to ps e n f r =
+    r.rows
+    ∙ ap (λ l. l ++ bytes_at places 0 from.name ps) f
+    ∙ append_assoc (take at out) (section_row_bytes null_section) (bytes_at places 0 from.name ps)
+    ∙ ap (λ k. take at out ++ (section_row_bytes null_section ++ bytes_at places 0 k ps)) n
+    ∙ ap (λ l. take at out ++ (section_row_bytes null_section ++ flat_map section_row_bytes l)) (rows_by_places places 0 1 64 ps (e ∙ places_are ps))
+
+-- the headers of contents, note, relocations and tables one after the other
+pub rows_joined : (places : List ℕ) (n1 n2 n3 : ℕ) (o1 o2 o3 o4 o5 : List ℕ) (x1 x2 x3 x4 x5 : NextRow) (note : Part) (cs rs ts all : List Part) → PlacesRows places 0 o1 o2 x1 x2 cs → PlacesRows places n1 o2 o3 x2 x3 (note ∷ [])
+    → PlacesRows places n2 o3 o4 x3 x4 rs → PlacesRows places n3 o4 o5 x4 x5 ts → n1 ≡ length cs → n2 ≡ n1 + 1 → n3 ≡ n2 + length rs → all ≡ cs ++ note ∷ rs ++ ts → PlacesRows places 0 o1 o5 x1 x5 all
+rows_joined places n1 n2 n3 o1 o2 o3 o4 o5 x1 x2 x3 x4 x5 note cs rs ts all c n r t e1 e2 e3 w =
+    let middle = rows_more places n1 n2 o2 o3 o4 x2 x3 x4 (note ∷ []) rs (note ∷ rs) n r e2 refl in
+    let front = rows_more places 0 n1 o1 o2 o4 x1 x2 x4 cs (note ∷ rs) (cs ++ note ∷ rs) c middle (omega (arith, e1)) refl in
+    rows_more places 0 n3 o1 o4 o5 x1 x4 x5 (cs ++ note ∷ rs) ts all front t (omega (arith, e1, e2, e3, length-append cs (note ∷ rs))) w
+
+part_names_sum : (ps : List Part) → sum_by part_name_size ps ≡ sum_by (λ name. length name + 1) (map part_name ps)
+part_names_sum [] = refl
+part_names_sum (p ∷ ps) = omega (arith, sum_by-cons part_name_size p ps, sum_by-cons (λ (name : List ℕ). length name + 1) p.name (map part_name ps), part_names_sum ps)
+
+pub part_names_are : (t : ElfTable) → 1 + sum_by part_name_size (parts_of t) ≡ strings_size (section_names t)
+part_names_are t = ap (λ n. 1 + n) (part_names_sum (parts_of t)) ∙ ap strings_size (names_of_parts t)
+
+-- ---- places below 2 ^ 64
 
 pub place_is : (r : Option ℕ) (n x : ℕ) → MatchOption r (2 ^ 64 ≤ n) (λ y. y ≡ n) → r ≡ Some x → x ≡ n
 place_is None n x m e = absurd (cc)
 place_is (Some y) n x m e = let same : y ≡ x = cc in sym same ∙ m
 
--- the end of the item is not behind the end of all
-pub end_room : (end total : ℕ) (p : Part) (left rest : List Part) → left ≡ p ∷ rest → fold end_after end left ≡ total → end_after end p ≤ total
-end_room end total p left rest e a = omega (arith, rw e at a, ends-le (end_after end p) rest)
+-- ---- the rooms of contents, note, relocations and tables
 
-pub ends_more : (end next total : ℕ) (p : Part) (left rest : List Part) → left ≡ p ∷ rest → next ≡ end_after end p → fold end_after end left ≡ total → fold end_after next rest ≡ total
-ends_more end next total p left rest e n a = rw n (rw e at a)
+pub room_whole : (places out : List ℕ) (at : ℕ) (t : ElfTable) → places ≡ places_of (parts_of t) → at + 64 * length (parts_of t) ≤ length out → strings_size (section_names t) < 2 ^ 32 → HasRoom places 0 out (record { at = at; name = 1 }) (parts_of t)
+room_whole places out at t e room names = record { at = room; name = omega (arith, part_names_are t, names); each = omega (arith, ap length e ∙ length-places_of (parts_of t)) }
 
-pub part_names_more : (place next total : ℕ) (p : Part) (left rest : List Part) → left ≡ p ∷ rest → next ≡ place + (length p.name + 1) → place + sum_by part_name_size left ≡ total → next + sum_by part_name_size rest ≡ total
-part_names_more place next total p left rest e n a = omega (arith, n, rw e at a, sum_by-cons part_name_size p rest)
+pub room_contents : (places out : List ℕ) (x : NextRow) (note : Part) (cs rs ts all : List Part) → HasRoom places 0 out x all → all ≡ cs ++ note ∷ rs ++ ts → HasRoom places 0 out x cs
+room_contents places out x note cs rs ts all h w = room_front places 0 out x cs (note ∷ rs ++ ts) all h (w ∙ append_assoc cs (note ∷ rs) ts)
 
-pub part_names_room : (place total : ℕ) (p : Part) (left rest : List Part) → left ≡ p ∷ rest → place + sum_by part_name_size left ≡ total → place + (length p.name + 1) ≤ total
-part_names_room place total p left rest e a = omega (arith, rw e at a, sum_by-cons part_name_size p rest)
+room_behind : (places : List ℕ) (n1 : ℕ) (o1 o2 : List ℕ) (x1 x2 : NextRow) (note : Part) (cs rs ts all : List Part) → HasRoom places 0 o1 x1 all → all ≡ cs ++ note ∷ rs ++ ts → PlacesRows places 0 o1 o2 x1 x2 cs → n1 ≡ length cs
+    → HasRoom places n1 o2 x2 (note ∷ rs ++ ts)
+room_behind places n1 o1 o2 x1 x2 note cs rs ts all h w c e = room_more places 0 n1 o1 o2 x1 x2 cs (note ∷ rs ++ ts) all h c (omega (arith, e)) (w ∙ append_assoc cs (note ∷ rs) ts)
 
-abbrev pub rows_bytes : ℕ → ℕ → List Part → List ℕ
-rows_bytes place end ps = flat_map section_row_bytes (section_rows_from place end ps)
+pub room_note : (places : List ℕ) (n1 : ℕ) (o1 o2 : List ℕ) (x1 x2 : NextRow) (note : Part) (cs rs ts all : List Part) → HasRoom places 0 o1 x1 all → all ≡ cs ++ note ∷ rs ++ ts → PlacesRows places 0 o1 o2 x1 x2 cs → n1 ≡ length cs
+    → HasRoom places n1 o2 x2 (note ∷ [])
+room_note places n1 o1 o2 x1 x2 note cs rs ts all h w c e = room_front places n1 o2 x2 (note ∷ []) (rs ++ ts) (note ∷ rs ++ ts) (room_behind places n1 o1 o2 x1 x2 note cs rs ts all h w c e) refl
 
--- one more header is written
-pub part_rows_more : (out new all : List ℕ) (place next_place start end next_end : ℕ) (p : Part) (left rest : List Part) → left ≡ p ∷ rest → next_place ≡ place + (length p.name + 1) → start ≡ start_after end p → next_end ≡ end_after end p
-    → new ≡ out ++ section_row_bytes (section_row_with place start p) → out ++ rows_bytes place end left ≡ all → new ++ rows_bytes next_place next_end rest ≡ all
-unfolding section_rows_from
-part_rows_more out new all place next_place start end next_end p left rest e n s d w a = rw (w, n, s, d, append_assoc) (rw e at a)
+room_rest : (places : List ℕ) (n1 n2 : ℕ) (o1 o2 o3 : List ℕ) (x1 x2 x3 : NextRow) (note : Part) (cs rs ts all : List Part) → HasRoom places 0 o1 x1 all → all ≡ cs ++ note ∷ rs ++ ts → PlacesRows places 0 o1 o2 x1 x2 cs → n1 ≡ length cs
+    → PlacesRows places n1 o2 o3 x2 x3 (note ∷ []) → n2 ≡ n1 + 1 → HasRoom places n2 o3 x3 (rs ++ ts)
+room_rest places n1 n2 o1 o2 o3 x1 x2 x3 note cs rs ts all h w c e n g = room_more places n1 n2 o2 o3 x2 x3 (note ∷ []) (rs ++ ts) (note ∷ rs ++ ts) (room_behind places n1 o1 o2 x1 x2 note cs rs ts all h w c e) n g refl
 
-pub part_rows_all : (out all : List ℕ) (place end : ℕ) (parts : List PartHeader) (i : ℕ) → length parts ≤ i → out ++ rows_bytes place end (map part_view (drop i parts)) ≡ all → out ≡ all
-unfolding section_rows_from
-part_rows_all out all place end parts i h a = sym (append-nil out) ∙ (rw (drop_all i parts h) at a)
+pub room_relocations : (places : List ℕ) (n1 n2 : ℕ) (o1 o2 o3 : List ℕ) (x1 x2 x3 : NextRow) (note : Part) (cs rs ts all : List Part) → HasRoom places 0 o1 x1 all → all ≡ cs ++ note ∷ rs ++ ts → PlacesRows places 0 o1 o2 x1 x2 cs → n1 ≡ length cs
+    → PlacesRows places n1 o2 o3 x2 x3 (note ∷ []) → n2 ≡ n1 + 1 → HasRoom places n2 o3 x3 rs
+room_relocations places n1 n2 o1 o2 o3 x1 x2 x3 note cs rs ts all h w c e n g = room_front places n2 o3 x3 rs ts (rs ++ ts) (room_rest places n1 n2 o1 o2 o3 x1 x2 x3 note cs rs ts all h w c e n g) refl
 
-pub end_is_fold : (parts : List PartHeader) → fold end_after 64 (map part_view parts) ≡ end_of_parts (map part_view parts)
-unfolding end_of_parts
-end_is_fold parts = refl
+pub room_tables : (places : List ℕ) (n1 n2 n3 : ℕ) (o1 o2 o3 o4 : List ℕ) (x1 x2 x3 x4 : NextRow) (note : Part) (cs rs ts all : List Part) → HasRoom places 0 o1 x1 all → all ≡ cs ++ note ∷ rs ++ ts → PlacesRows places 0 o1 o2 x1 x2 cs
+    → n1 ≡ length cs → PlacesRows places n1 o2 o3 x2 x3 (note ∷ []) → n2 ≡ n1 + 1 → PlacesRows places n2 o3 o4 x3 x4 rs → n3 ≡ n2 + length rs → HasRoom places n3 o4 x4 ts
+room_tables places n1 n2 n3 o1 o2 o3 o4 x1 x2 x3 x4 note cs rs ts all h w c e n g r k =
+    room_more places n2 n3 o3 o4 x3 x4 rs ts (rs ++ ts) (room_rest places n1 n2 o1 o2 o3 x1 x2 x3 note cs rs ts all h w c e n g) r k refl
 
--- the null header stands in front
-pub first_row : (out new : List ℕ) (parts : List PartHeader) → new ≡ out ++ section_row_bytes null_section → new ++ rows_bytes 1 64 (map part_view parts) ≡ out ++ flat_map section_row_bytes (section_rows (map part_view parts))
-first_row out new parts e = ap (λ l. l ++ rows_bytes 1 64 (map part_view parts)) e ∙ append_assoc out (section_row_bytes null_section) (rows_bytes 1 64 (map part_view parts))
+-- how many parts are there
+pub parts_count : (note : Part) (cs rs ts all : List Part) → all ≡ cs ++ note ∷ rs ++ ts → length all ≡ length cs + (1 + length rs) + length ts
+parts_count note cs rs ts all w = ap length w ∙ length-append (cs ++ note ∷ rs) ts ∙ ap (λ n. n + length ts) (length-append cs (note ∷ rs)) ∙ omega arith
 
--- ---- the list of parts
-
-view_next : (ps new : List PartHeader) (part : PartHeader) (p : Part) → new ≡ ps ++ part ∷ [] → part_view part ≡ p → map part_view new ≡ map part_view ps ++ p ∷ []
-view_next ps new part p e v = ap (map part_view) e ∙ map-append part_view ps (part ∷ []) ∙ ap (λ q. map part_view ps ++ q ∷ []) v
-
--- the parts that are listed one after the other
-pub parts_listed : (p0 p1 p2 p3 p4 p5 p6 : List PartHeader) (a b c d : PartHeader) (cs rs : List Part) (n s t u : Part) → p0 ≡ [] → map part_view p1 ≡ map part_view p0 ++ cs → p2 ≡ p1 ++ a ∷ [] → part_view a ≡ n
-    → map part_view p3 ≡ map part_view p2 ++ rs → p4 ≡ p3 ++ b ∷ [] → part_view b ≡ s → p5 ≡ p4 ++ c ∷ [] → part_view c ≡ t → p6 ≡ p5 ++ d ∷ [] → part_view d ≡ u
-    → map part_view p6 ≡ cs ++ n ∷ rs ++ s ∷ t ∷ u ∷ []
-parts_listed p0 p1 p2 p3 p4 p5 p6 a b c d cs rs n s t u e0 e1 e2 va e3 e4 vb e5 vc e6 vd =
-    let f1 : map part_view p1 ≡ cs = e1 ∙ ap (λ l. map part_view l ++ cs) e0 in
-    let f2 : map part_view p2 ≡ cs ++ n ∷ [] = view_next p1 p2 a n e2 va ∙ ap (λ l. l ++ n ∷ []) f1 in
-    let f3 : map part_view p3 ≡ cs ++ n ∷ rs = e3 ∙ ap (λ l. l ++ rs) f2 ∙ append_assoc cs (n ∷ []) rs in
-    let f4 : map part_view p4 ≡ cs ++ n ∷ rs ++ s ∷ [] = view_next p3 p4 b s e4 vb ∙ ap (λ l. l ++ s ∷ []) f3 in
-    let f5 : map part_view p5 ≡ cs ++ n ∷ rs ++ s ∷ t ∷ [] = view_next p4 p5 c t e5 vc ∙ ap (λ l. l ++ t ∷ []) f4 ∙ append_assoc (cs ++ n ∷ rs) (s ∷ []) (t ∷ []) in
-    view_next p5 p6 d u e6 vd ∙ ap (λ l. l ++ u ∷ []) f5 ∙ append_assoc (cs ++ n ∷ rs) (s ∷ t ∷ []) (u ∷ [])
+-- the places of contents, note, relocations and tables one after the other
+pub pushes_joined : (a b c d f : List ℕ) (e1 e2 e3 e4 e5 : ℕ) (note : Part) (cs rs ts all : List Part) → PushesPlaces a b e1 e2 cs → PushesPlaces b c e2 e3 (note ∷ []) → PushesPlaces c d e3 e4 rs → PushesPlaces d f e4 e5 ts → all ≡ cs ++ note ∷ rs ++ ts
+    → PushesPlaces a f e1 e5 all
+pushes_joined a b c d f e1 e2 e3 e4 e5 note cs rs ts all p n r t w =
+    let middle = pushes_more b c d e2 e3 e4 (note ∷ []) rs (note ∷ rs) n r refl in
+    pushes_more a d f e1 e4 e5 (cs ++ note ∷ rs) ts all (pushes_more a b d e1 e2 e4 cs (note ∷ rs) (cs ++ note ∷ rs) p middle refl) t w

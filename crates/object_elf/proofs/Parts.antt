@@ -131,9 +131,12 @@ fit_strings name names = fit_stored (string_part name (strings_size names)) (str
 fit_note : FitsPart note_part (record { align = 1; bytes = [] })
 fit_note = fit_stored note_part (record { align = 1; bytes = [] }) refl refl refl
 
-pub fit_table : (t : ElfTable) → FitsElf t → FitParts (parts_of t) (contents_of t)
+pub fit_by : (t : ElfTable) → ((k : ℕ) (s : ElfTableSection) → slice_get t.sections k ≡ Some s → HasContents s) → FitParts (parts_of t) (contents_of t)
 unfolding parts_of contents_of
-fit_table t f =
+fit_by t h =
     fit_append _ _ _ _
-    (fit_append _ _ _ _ (fit_map content_part section_contents t.sections (λ k s e. fit_section s (f.sections k s e).contents)) (fit_note, fit_relocated t 1 t.sections))
+    (fit_append _ _ _ _ (fit_map content_part section_contents t.sections (λ k s e. fit_section s (h k s e))) (fit_note, fit_relocated t 1 t.sections))
     (fit_symbols t, (fit_strings _ (symbol_names t), (fit_strings _ (section_names t), tt)))
+
+pub fit_table : (t : ElfTable) → FitsElf t → FitParts (parts_of t) (contents_of t)
+fit_table t f = fit_by t (λ k s e. (f.sections k s e).contents)

@@ -13,7 +13,7 @@ use Rattle.object_elf.specs.ElfHolds.{header_for}
 use Rattle.object_elf.specs.File.{header_fields, header_bytes, section_row_bytes, section_rows, section_rows_from, contents_of, elf_file}
 use Rattle.object_elf.specs.Fitting.{FitsElf}
 use Rattle.object_elf.proofs.Rows.{length-section_row_bytes}
-use Rattle.object_elf.proofs.Parts.{FitsPart, fit_take, fit_end, fit_part, fit_table}
+use Rattle.object_elf.proofs.Parts.{FitsPart, FitParts, fit_take, fit_end, fit_part, fit_table}
 
 -- ---- the pieces of a file of any parts
 
@@ -25,9 +25,12 @@ pub end_is : (t : ElfTable) → FitsElf t → (k : ℕ) → end_of_aligned 64 (t
 unfolding end_of_parts
 end_is t f k = sym (fit_end 64 (take k (parts_of t)) (take k (contents_of t)) (fit_take (parts_of t) (contents_of t) k (fit_table t f)))
 
-pub whole_end_is : (t : ElfTable) → FitsElf t → end_of_aligned 64 (contents_of t) ≡ end_of_parts (parts_of t)
+pub whole_end_by : (t : ElfTable) → FitParts (parts_of t) (contents_of t) → end_of_aligned 64 (contents_of t) ≡ end_of_parts (parts_of t)
 unfolding end_of_parts
-whole_end_is t f = sym (fit_end 64 (parts_of t) (contents_of t) (fit_table t f))
+whole_end_by t f = sym (fit_end 64 (parts_of t) (contents_of t) f)
+
+pub whole_end_is : (t : ElfTable) → FitsElf t → end_of_aligned 64 (contents_of t) ≡ end_of_parts (parts_of t)
+whole_end_is t f = whole_end_by t (fit_table t f)
 
 abbrev gap_of : ElfTable → List ℕ
 gap_of t = replicate (headers_start t - end_of_parts (parts_of t)) 0

@@ -1,5 +1,5 @@
 -- Loops over the symbols of an object.
-use Rattle.std.proofs.Common.{◌≡◌, ℕ, ◌+◌, ◌<◌, ◌≤◌, List, [], ◌∷◌, ◌++◌, length, drop, get_or, refl, ap, sym, ◌∙◌, arith, append_assoc, append-nil, Bool, true, false}
+use Rattle.std.proofs.Common.{◌≡◌, ℕ, ◌+◌, ◌*◌, ◌<◌, ◌≤◌, List, [], ◌∷◌, ◌++◌, length, drop, get_or, refl, ap, sym, ◌∙◌, arith, append_assoc, append-nil, Bool, true, false}
 use Rattle.std.specs.Prelude.{flat_map}
 use Rattle.std.proofs.lemmas.List.{drop_all}
 use Rattle.std.proofs.lemmas.List.Sums.{sum_by-cons}
@@ -52,6 +52,16 @@ passed_rows out all place left rest e a = rw e at a
 
 pub passed_names : (place total : ℕ) (left rest : List ElfTableSymbol) → left ≡ rest → place + names_size left ≡ total → place + names_size rest ≡ total
 passed_names place total left rest e a = rw e at a
+
+-- each row takes 24 bytes
+pub rows_end_more : (at next total : ℕ) (s : ElfTableSymbol) (left rest : List ElfTableSymbol) → left ≡ s ∷ rest → next ≡ at + 24 → at + 24 * length left ≡ total → next + 24 * length rest ≡ total
+rows_end_more at next total s left rest e n a = omega (arith, n, rw e at a)
+
+pub rows_room : (at total : ℕ) (s : ElfTableSymbol) (left rest : List ElfTableSymbol) → left ≡ s ∷ rest → at + 24 * length left ≡ total → at + 24 ≤ total
+rows_room at total s left rest e a = omega (arith, rw e at a)
+
+pub passed_ends : (at total : ℕ) (left rest : List ElfTableSymbol) → left ≡ rest → at + 24 * length left ≡ total → at + 24 * length rest ≡ total
+passed_ends at total left rest e a = rw e at a
 
 pub not_chosen : {P : Type 0} {b : Bool} → b ≡ false → b ≡ true → P
 not_chosen fails passes = absurd (cc)

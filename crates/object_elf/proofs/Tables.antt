@@ -89,6 +89,23 @@ section_names_are ss (x ∷ xs) =
     ∙ names_past x (relocation_name (elf_section ss x)) later (has_relocations x) refl in
     omega (arith, first, second, section_names_are ss xs, sum_by-cons section_name_size x xs, size_cond x (has_relocations x))
 
+record_past : (x : SectionData) (fs : List SectionData) (b : Bool) → sum_by rows.record_name_size (cond b (x ∷ fs) fs) ≡ cond b (length x.name + 6) 0 + sum_by rows.record_name_size fs
+record_past x fs true = sum_by-cons rows.record_name_size x fs
+record_past x fs false = omega arith
+
+-- the names of the sections and those of their relocations
+pub names_split : (xs : List SectionData) → sum_by rows.own_name_size xs + sum_by rows.record_name_size (filter has_relocations xs) ≡ sum_by section_name_size xs
+names_split [] = refl
+names_split (x ∷ xs) =
+    omega (
+      arith,
+      sum_by-cons rows.own_name_size x xs,
+      record_past x (filter has_relocations xs) (has_relocations x),
+      sum_by-cons section_name_size x xs,
+      size_cond x (has_relocations x),
+      names_split xs,
+    )
+
 pub section_names_size_is : (o : ObjectData) → strings_size (section_names (elf_table_of o)) ≡ 43 + sum_by section_name_size o.sections
 unfolding section_names elf_table_of
 section_names_size_is o =
@@ -124,6 +141,23 @@ symbol_names_size_is o =
     let split : row_names (filter is_local o.symbols ++ filter is_global o.symbols) ≡ row_names (filter is_local o.symbols) ++ row_names (filter is_global o.symbols) =
     ap (map symbol_name) (map-append elf_symbol (filter is_local o.symbols) (filter is_global o.symbols)) ∙ map-append symbol_name (map elf_symbol (filter is_local o.symbols)) (map elf_symbol (filter is_global o.symbols)) in
     omega (arith, ap names_size split, sum_by-append name_size (row_names (filter is_local o.symbols)) (row_names (filter is_global o.symbols)), both_names o.symbols)
+
+-- ---- texts
+
+pub own_names_are : (ss : List Symbol) (xs : List SectionData) → map content_name (map (elf_section ss) xs) ≡ map rows.own_name xs
+own_names_are ss [] = refl
+own_names_are ss (x ∷ xs) = ap (λ names. x.name ∷ names) (own_names_are ss xs)
+
+record_names_past : (ss : List Symbol) (x : SectionData) (ts : List ElfTableSection) (fs : List SectionData) (b : Bool) → map relocation_name ts ≡ map rows.record_name fs
+    → map relocation_name (cond b (elf_section ss x ∷ ts) ts) ≡ map rows.record_name (cond b (x ∷ fs) fs)
+record_names_past ss x ts fs true e = ap (λ names. rows.record_name x ∷ names) e
+record_names_past ss x ts fs false e = e
+
+pub record_names_are : (ss : List Symbol) (xs : List SectionData) → map relocation_name (filter is_relocated (map (elf_section ss) xs)) ≡ map rows.record_name (filter has_relocations xs)
+record_names_are ss [] = refl
+record_names_are ss (x ∷ xs) =
+    let ts = filter is_relocated (map (elf_section ss) xs) in
+    ap (λ b. map relocation_name (cond b (elf_section ss x ∷ ts) ts)) (relocated_is ss x) ∙ record_names_past ss x ts (filter has_relocations xs) (has_relocations x) (record_names_are ss xs)
 
 -- ---- counts
 
@@ -185,3 +219,14 @@ chosen_past s ls gs false = omega (arith, sum_by-cons rows.name_size (elf_symbol
 pub chosen_sizes : (ss : List Symbol) → rows.names_size (chosen true ss) + rows.names_size (chosen false ss) ≡ sum_by symbol_name_size ss
 chosen_sizes [] = refl
 chosen_sizes (s ∷ ss) = omega (arith, chosen_past s (filter is_local ss) (filter is_global ss) (is_local s), chosen_sizes ss, sum_by-cons symbol_name_size s ss)
+
+pub chosen_counts : (ss : List Symbol) → length (chosen true ss) + length (chosen false ss) ≡ length ss
+chosen_counts ss =
+    omega (
+      arith,
+      length-map (filter is_local ss) elf_symbol,
+      length-map (filter is_global ss) elf_symbol,
+      length-filter is_local ss,
+      length-filter is_global ss,
+      local_and_global ss,
+    )

@@ -1,11 +1,13 @@
 -- What a contract sees of the parts that the writer lists.
-use Rattle.std.specs.Prelude.{ℕ, ◌+◌, ◌*◌, Bool, List, ◌++◌, length, map, filter, flat_map, replicate, ◌-◌, codes}
+use Rattle.std.specs.Prelude.{◌≡◌, ℕ, ◌+◌, ◌*◌, ◌<◌, ◌≤◌, ◌^◌, Bool, List, [], ◌∷◌, ◌++◌, length, take, map, filter, flat_map, fold, sum_by, slice_index, codes}
 use Rattle.std.specs.List.{enumerate_from}
-use Rattle.std.specs.Int.{next_multiple_of}
 use Rattle.object_core.specs.Object.{SectionData}
+use Rattle.object_core.specs.LinkTable.{ElfTable}
+use Rattle.image_read.specs.ElfFile.{ElfSectionRow}
 use Rattle.object_elf.specs.declared.layout.PartHeader.{PartHeader}
-use Rattle.object_elf.specs.Layout.{Part, content_part, string_bytes_of}
-use Rattle.object_elf.specs.File.{section_row_bytes, section_rows}
+use Rattle.object_elf.specs.declared.next_row.NextRow.{NextRow}
+use Rattle.object_elf.specs.Layout.{Part, content_part, symbol_part, string_part, strings_size, symbol_names, section_names, start_after, end_after}
+use Rattle.object_elf.specs.File.{section_row_bytes, section_row_with}
 use Rattle.object_elf.specs.Writing.{plain_section, has_relocations}
 
 abbrev pub part_view : PartHeader → Part
@@ -37,12 +39,38 @@ part_name p = p.name
 abbrev pub symbol_part_of : ℕ → ℕ → ℕ → Part
 symbol_part_of symbols locals row = record { name = codes ".symtab"; sh_type = 2; flags = 0; size = 24 * (symbols + 1); link = row + 1; info = locals; align = 8; entsize = 24 }
 
--- -- the end of a file
+-- the tables of a file: the symbols, their names and the names of the sections
+abbrev pub table_parts : ElfTable → List Part
+table_parts t = symbol_part t ∷ string_part (codes ".strtab") (strings_size (symbol_names t)) ∷ string_part (codes ".shstrtab") (strings_size (section_names t)) ∷ []
 
--- bytes with zeros up to a multiple of 8
-abbrev pub with_padding : List ℕ → List ℕ
-with_padding bytes = bytes ++ replicate (next_multiple_of (length bytes) 8 - length bytes) 0
+-- -- places of parts one after the other
 
--- bytes with the names of the parts and their headers behind them
-abbrev pub with_end : List ℕ → List Part → List ℕ
-with_end bytes parts = with_padding (bytes ++ string_bytes_of (map part_name parts)) ++ flat_map section_row_bytes (section_rows parts)
+-- where parts start behind a part that ends here
+unfoldable pub starts_from : ℕ → List Part → List ℕ
+starts_from end [] = []
+starts_from end (p ∷ ps) = start_after end p ∷ starts_from (end_after end p) ps
+
+-- these parts' places were appended, from one end to another
+pub record PushesPlaces (old new : List ℕ) (from to : ℕ) (parts : List Part) : Type 0 where
+  pub places : new ≡ old ++ starts_from from parts
+  pub end : to ≡ fold end_after from parts
+
+-- -- headers of parts one after the other
+
+-- the headers of parts from this number on, by the places of all parts; their names stand one after the other from a place on
+unfoldable pub rows_at : List ℕ → ℕ → ℕ → List Part → List ElfSectionRow
+rows_at places number name [] = []
+rows_at places number name (p ∷ ps) = section_row_with name (slice_index places number) p ∷ rows_at places (number + 1) (name + (length p.name + 1)) ps
+
+-- the headers of these parts were written
+pub record PlacesRows (places : List ℕ) (number : ℕ) (old new : List ℕ) (from to : NextRow) (parts : List Part) : Type 0 where
+  pub rows : take to.at new ≡ take from.at old ++ flat_map section_row_bytes (rows_at places number from.name parts)
+  pub at : to.at ≡ from.at + 64 * length parts
+  pub name : to.name ≡ from.name + sum_by part_name_size parts
+  pub len : length new ≡ length old
+
+-- they have room, and each has a place
+pub record HasRoom (places : List ℕ) (number : ℕ) (out : List ℕ) (from : NextRow) (parts : List Part) : Type 0 where
+  pub at : from.at + 64 * length parts ≤ length out
+  pub name : from.name + sum_by part_name_size parts < 2 ^ 32
+  pub each : number + length parts ≤ length places

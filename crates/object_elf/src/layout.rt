@@ -1,19 +1,18 @@
 //! The parts of the file in order, and where they end. Each starts at a multiple of its alignment.
 
-ghost use Rattle.std.specs.Prelude.{◌≡◌, ℕ, ◌+◌, ◌*◌, ◌≤◌, ◌<◌, ◌^◌, ◌++◌, Some, MatchOption, IfSome, IfOk, OnOk, map, slice_get, length, count_by};
+ghost use Rattle.std.specs.Prelude.{◌≡◌, ◌+◌, ◌*◌, ◌≤◌, ◌<◌, ◌^◌, MatchOption, map, length, count_by};
 ghost use Rattle.object_core.specs.ElfRows.{elf_table_of, elf_section_type, elf_section_flags, retain_flag};
 ghost use Rattle.object_core.specs.Object.{SectionData, is_local};
-ghost use Rattle.object_elf.specs.Layout.{end_after, end_of_parts, start_after, string_part, parts_of};
+ghost use Rattle.object_elf.specs.Layout.{end_after, start_after, note_part, string_part, symbol_table_row};
 ghost use Rattle.object_elf.specs.PlainCounts.{plain_counts};
 ghost use Rattle.object_elf.specs.Limits.{IsWithinLimits};
 ghost use Rattle.object_elf.specs.Writing.{has_relocations};
-ghost use Rattle.object_elf.specs.PartView.{part_view, symbol_part_of, content_part_of, relocation_part_of, relocation_parts_from};
+ghost use Rattle.object_elf.specs.PartView.{part_view, table_parts, symbol_part_of, content_part_of, relocation_part_of};
 
 use crate::limits::{relocated_count, section_names_size, symbol_names_size};
 use crate::symbol_rows::local_count;
 use byte_core::align_up;
 use object_core::{Object, Section, SectionKind, Symbol};
-use std::alloc::{AllocError, Global};
 
 /// A section of the file, by the fields of its header but for the places: System V gABI, "Sections".
 #[derive(Clone, Copy)]
@@ -31,45 +30,41 @@ pub(crate) struct PartHeader<'a> {
 }
 
 /// No part of the object needs an executable stack.
-const NOTE_PART: PartHeader<'static> = PartHeader {
-    prefix: b"",
-    name: b".note.GNU-stack",
-    sh_type: 1,
-    flags: 0,
-    size: 0,
-    link: 0,
-    info: 0,
-    align: 1,
-    entsize: 0,
-};
-
-/// The parts of the object's file in order.
-pub(crate) fn parts_of<'a>(
-    alloc: Global,
-    object: &'a Object,
-) -> Result<Vec<PartHeader<'a>>, AllocError>
-    requires { IsWithinLimits (plain_counts object.now) }
-    ensures { IfOk result (λ parts. map part_view parts.items ≡ parts_of (elf_table_of object.now)) }
+pub(crate) fn stack_note() -> PartHeader<'static>
+    ensures { part_view result ≡ note_part }
 {
-    let sections = object.sections();
-    let symbols = object.symbols();
-    let table = symbol_table_row(sections);
-    let mut parts = Vec::new(alloc);
-    push_content_parts(&mut parts, sections)?;
-    parts.push(NOTE_PART)?;
-    push_relocation_parts(&mut parts, sections, table)?;
-    parts.push(symbol_part(symbols, table))?;
-    parts.push(string_part(b".strtab", symbol_names_size(symbols) as u64))?;
-    parts.push(string_part(b".shstrtab", section_names_size(sections) as u64))?;
-    Ok(parts)
+    PartHeader {
+        prefix: b"",
+        name: b".note.GNU-stack",
+        sh_type: 1,
+        flags: 0,
+        size: 0,
+        link: 0,
+        info: 0,
+        align: 1,
+        entsize: 0,
+    }
 }
 
 /// The header row of the symbol table.
-fn symbol_table_row(sections: &[Section]) -> u32
+pub(crate) fn row_of_symbol_table(sections: &[Section]) -> u32
     requires { length sections.now + 2 + count_by has_relocations sections.now < 2 ^ 32 }
     ensures { result ≡ length sections.now + 2 + count_by has_relocations sections.now }
 {
     (sections.len() + 2 + relocated_count(sections)) as u32
+}
+
+/// The symbol table in this header row, its string section and that of the sections.
+pub(crate) fn table_parts(object: &Object, table: u32) -> [PartHeader<'static>; 3]
+    requires limits { IsWithinLimits (plain_counts object.now) }
+    requires table { table ≡ symbol_table_row (elf_table_of object.now) }
+    ensures { map part_view result ≡ table_parts (elf_table_of object.now) }
+{
+    [
+        symbol_part(object.symbols(), table),
+        string_part(b".strtab", symbol_names_size(object) as u64),
+        string_part(b".shstrtab", section_names_size(object) as u64),
+    ]
 }
 
 fn symbol_part(symbols: &[Symbol], table: u32) -> PartHeader<'static>
@@ -126,57 +121,15 @@ pub(crate) fn end_behind(end: u64, part: &PartHeader<'_>) -> Option<u64>
     align_up(end, part.align)?.checked_add(part.size)
 }
 
-/// Where the last part ends, the first standing behind the file header. None past the numbers of 64 bits.
-pub(crate) fn end_of_parts(parts: &[PartHeader<'_>]) -> Option<u64>
-    ensures { IfSome result (λ end. end ≡ end_of_parts (map part_view parts.now)) }
-{
-    let mut end = 64;
-    for part in parts {
-        end = end_behind(end, part)?;
-    }
-    Some(end)
-}
-
-/// Appends a part for each section of the object.
-pub(crate) fn push_content_parts<'a>(
-    parts: &mut Vec<PartHeader<'a>>,
-    sections: &'a [Section],
-) -> Result<(), AllocError>
-    requires { (k : ℕ) (s : SectionData) → slice_get sections.now k ≡ Some s → s.size < 2 ^ 64 }
-    ensures { OnOk result (map part_view parts.new.items ≡ map part_view parts.old.items ++ map content_part_of sections.now) }
-{
-    for section in sections {
-        parts.push(content_part(section))?;
-    }
-    Ok(())
-}
-
-/// Appends a part for the relocations of each section that has some. The symbol table has the header row `link`.
-pub(crate) fn push_relocation_parts<'a>(
-    parts: &mut Vec<PartHeader<'a>>,
-    sections: &'a [Section],
-    link: u32,
-) -> Result<(), AllocError>
-    requires { length sections.now + 1 < 2 ^ 32 }
-    ensures { OnOk result (map part_view parts.new.items ≡ map part_view parts.old.items ++ relocation_parts_from link 1 sections.now) }
-{
-    let mut row = 1;
-    for section in sections {
-        if !section.relocations().is_empty() {
-            parts.push(relocation_part(section, row, link)?)?;
-        }
-        row += 1;
-    }
-    Ok(())
-}
-
-fn content_part(section: &Section) -> PartHeader<'_>
-    requires { (section.now).size < 2 ^ 64 }
+/// The part of a section of this name.
+pub(crate) fn content_part<'a>(section: &Section, name: &'a [u8]) -> PartHeader<'a>
+    requires name { name.now ≡ (section.now).name }
+    requires size { (section.now).size < 2 ^ 64 }
     ensures { part_view result ≡ content_part_of section.now }
 {
     PartHeader {
         prefix: b"",
-        name: section.name(),
+        name,
         sh_type: section_type(section.kind()),
         flags: section_flags(section),
         size: section.size() as u64,
@@ -187,21 +140,22 @@ fn content_part(section: &Section) -> PartHeader<'_>
     }
 }
 
-fn relocation_part(section: &Section, row: u32, link: u32) -> Result<PartHeader<'_>, AllocError>
-    ensures { IfOk result (λ part. part_view part ≡ relocation_part_of link (row, section.now)) }
+/// The part of the relocations of a section of this name in a header row. They take so many bytes, and the symbol table
+/// has the header row `link`.
+pub(crate) fn relocation_part(name: &[u8], size: u64, row: u32, link: u32) -> PartHeader<'_>
+    ensures { (s : SectionData) → name.now ≡ s.name → size ≡ 24 * length s.relocations → part_view result ≡ relocation_part_of link (row, s) }
 {
-    let size = (section.relocations().len() as u64).checked_mul(24);
-    Ok(PartHeader {
+    PartHeader {
         prefix: b".rela",
-        name: section.name(),
+        name,
         sh_type: 4,
         flags: 0x40,
-        size: size.ok_or(AllocError)?,
+        size,
         link,
         info: row,
         align: 8,
         entsize: 24,
-    })
+    }
 }
 
 /// SHT_NOBITS 8 for zeros, else SHT_PROGBITS 1.

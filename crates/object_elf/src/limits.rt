@@ -1,11 +1,12 @@
 //! The limits of the format, which are this project's own choice.
 
-ghost use Rattle.std.specs.Prelude.{◌≡◌, ◌+◌, ◌<◌, ◌≤◌, ◌^◌, length, count_by, sum_by};
+ghost use Rattle.std.specs.Prelude.{◌≡◌, ◌+◌, ◌<◌, ◌≤◌, ◌^◌, IsOk, length, count_by, sum_by};
 ghost use Rattle.object_elf.specs.Writing.{has_relocations};
-ghost use Rattle.object_elf.specs.Limits.{IsJudged};
+ghost use Rattle.object_elf.specs.Limits.{IsJudged, IsWithinLimits};
 ghost use Rattle.object_elf.specs.PlainCounts.{plain_counts, symbol_name_size, section_name_size};
 
-use object_core::{EmitError, Object, Section, Symbol, What};
+use crate::object_names::{section_name, symbol_name};
+use object_core::{EmitError, Object, Section, What};
 
 const SECTIONS: u128 = 65_280;
 
@@ -17,7 +18,8 @@ const NAMES: u128 = 1 << 32;
 
 /// The first limit that the object reaches. It takes no memory.
 pub(crate) fn check_limits(object: &Object) -> Result<(), EmitError>
-    ensures { IsJudged result (plain_counts object.now) }
+    ensures judged { IsJudged result (plain_counts object.now) }
+    ensures within { IsWithinLimits (plain_counts object.now) → IsOk result }
 {
     let sections = object.sections();
     let symbols = object.symbols();
@@ -35,7 +37,7 @@ pub(crate) fn check_limits(object: &Object) -> Result<(), EmitError>
         let what = What::Contents;
         return Err(EmitError::TooLarge { what, amount });
     }
-    let amount = symbol_names_size(symbols) + section_names_size(sections);
+    let amount = symbol_names_size(object) + section_names_size(object);
     if amount >= NAMES {
         let what = What::Names;
         return Err(EmitError::TooLarge { what, amount });
@@ -74,39 +76,42 @@ pub(crate) fn has_relocations(section: &Section) -> bool
 }
 
 /// The bytes of the string section of the symbols.
-pub(crate) fn symbol_names_size(symbols: &[Symbol]) -> u128
-    requires { length symbols.now < 2 ^ 32 }
-    ensures value { result ≡ 1 + sum_by symbol_name_size symbols.now }
+pub(crate) fn symbol_names_size(object: &Object) -> u128
+    requires { length (object.now).symbols < 2 ^ 32 }
+    ensures value { result ≡ 1 + sum_by symbol_name_size (object.now).symbols }
     ensures bound { result < 2 ^ 97 }
 {
+    let count = object.symbols().len();
     let mut size = 1;
-    for symbol in symbols {
-        size += symbol.name.as_slice().len() as u128 + 1;
+    for k in 0..count {
+        size += symbol_name(object, k).len() as u128 + 1;
     }
     size
 }
 
 /// The bytes of the string section of the sections.
-pub(crate) fn section_names_size(sections: &[Section]) -> u128
-    requires { length sections.now < 65280 }
-    ensures value { result ≡ 43 + sum_by section_name_size sections.now }
+pub(crate) fn section_names_size(object: &Object) -> u128
+    requires { length (object.now).sections < 65280 }
+    ensures value { result ≡ 43 + sum_by section_name_size (object.now).sections }
     ensures bound { result < 2 ^ 97 }
 {
+    let sections = object.sections();
     let mut size = 43;
-    for section in sections {
-        size += section_name_size(section);
+    for (k, section) in sections.iter().enumerate() {
+        size += section_name_size(section, section_name(object, k));
     }
     size
 }
 
-fn section_name_size(section: &Section) -> u128
+fn section_name_size(section: &Section, name: &[u8]) -> u128
+    requires { name.now ≡ (section.now).name }
     ensures value { result ≡ section_name_size section.now }
     ensures bound { result < 2 ^ 66 }
 {
-    let name = section.name().len() as u128;
+    let size = name.len() as u128;
     if has_relocations(section) {
-        name + 1 + (name + 6)
+        size + 1 + (size + 6)
     } else {
-        name + 1
+        size + 1
     }
 }

@@ -1,14 +1,15 @@
 //! Relocation records: System V gABI, "Relocation".
 
-ghost use Rattle.std.specs.Prelude.{List, ◌≡◌, ℕ, ◌+◌, ◌<◌, ◌^◌, ◌++◌, Some, IfOk, OnOk, map, filter, length, slice_get, slice_index};
-ghost use Rattle.byte_core.specs.LaidOut.{LaysOut};
+ghost use Rattle.std.specs.Prelude.{List, ◌≡◌, ℕ, ◌+◌, ◌*◌, ◌<◌, ◌≤◌, ◌^◌, ◌++◌, Some, IfOk, map, filter, take, length, slice_get, slice_index};
+ghost use Rattle.byte_core.specs.LaidOut.{LaysOut, end_of_aligned};
 ghost use Rattle.object_core.specs.ElfRows.{elf_type_of};
+ghost use Rattle.object_core.specs.declared.relocation.Relocation.{Relocation};
 ghost use Rattle.object_core.specs.Object.{SectionData};
 ghost use Rattle.object_elf.specs.File.{relocation_row_bytes};
 ghost use Rattle.object_elf.specs.Writing.{AreRowsOf, NameSymbols, FitsRecord, FitRecords, record_by, record_bytes_by, records_at, has_relocations};
 
 use crate::symbol_rows::{is_local, local_count};
-use byte_core::{Field, push_fields, push_padding};
+use byte_core::{Field, place_fields, place_padding};
 use object_core::{Relocation, RelocationFlags, Section, Symbol};
 use std::alloc::{AllocError, Global};
 
@@ -33,48 +34,57 @@ pub(crate) fn rows_of_symbols(alloc: Global, symbols: &[Symbol]) -> Result<Vec<u
     Ok(rows)
 }
 
-/// Appends the records of each section that has some, at multiples of 8. The rows are those of the symbols.
-pub(crate) fn push_relocations(
-    out: &mut Vec<u8>,
+/// Writes the records of each section that has some, at multiples of 8. The rows are those of the symbols.
+pub(crate) fn place_relocations(
+    out: &mut [u8],
+    at: usize,
     sections: &[Section],
     rows: &[u32],
-) -> Result<(), AllocError>
-    requires { (k : ℕ) (s : SectionData) → slice_get sections.now k ≡ Some s → NameSymbols (length rows.now) s.relocations }
-    ensures records { OnOk result (LaysOut out.old.items out.new.items (map (records_at rows.now) (filter has_relocations sections.now))) }
-    ensures fit { OnOk result ((k : ℕ) (s : SectionData) → slice_get sections.now k ≡ Some s → FitRecords s.relocations) }
+) -> usize
+    requires names { (k : ℕ) (s : SectionData) → slice_get sections.now k ≡ Some s → NameSymbols (length rows.now) s.relocations }
+    requires room { end_of_aligned at (map (records_at rows.now) (filter has_relocations sections.now)) ≤ length out.old }
+    ensures records { LaysOut (take at out.old) (take result out.new) (map (records_at rows.now) (filter has_relocations sections.now)) }
+    ensures end { result ≡ end_of_aligned at (map (records_at rows.now) (filter has_relocations sections.now)) }
+    ensures len { length out.new ≡ length out.old }
+    ensures fit { (k : ℕ) (s : SectionData) → slice_get sections.now k ≡ Some s → FitRecords s.relocations }
 {
+    let mut end = at;
     for section in sections {
         if section.relocations().is_empty() {
             continue;
         }
-        push_padding(out, 8)?;
-        push_records(out, section.relocations(), rows)?;
+        end = place_padding(out, end, 8);
+        end = place_records(out, end, section.relocations(), rows);
     }
-    Ok(())
+    end
 }
 
-fn push_records(
-    out: &mut Vec<u8>,
-    relocations: &[Relocation],
-    rows: &[u32],
-) -> Result<(), AllocError>
-    requires { NameSymbols (length rows.now) relocations.now }
-    ensures records { OnOk result (out.new.items ≡ out.old.items ++ record_bytes_by rows.now relocations.now) }
-    ensures fit { OnOk result (FitRecords relocations.now) }
+fn place_records(out: &mut [u8], at: usize, relocations: &[Relocation], rows: &[u32]) -> usize
+    requires names { NameSymbols (length rows.now) relocations.now }
+    requires room { at + 24 * length relocations.now ≤ length out.old }
+    ensures records { take result out.new ≡ take at out.old ++ record_bytes_by rows.now relocations.now }
+    ensures end { result ≡ at + 24 * length relocations.now }
+    ensures len { length out.new ≡ length out.old }
+    ensures fit { (k : ℕ) (r : Relocation) → slice_get relocations.now k ≡ Some r → FitsRecord r }
 {
+    let mut end = at;
     for relocation in relocations {
         let row = rows[relocation.symbol.as_number()];
-        push_record(out, *relocation, row)?;
+        end = place_record(out, end, *relocation, row);
     }
-    Ok(())
+    end
 }
 
-fn push_record(out: &mut Vec<u8>, relocation: Relocation, row: u32) -> Result<(), AllocError>
-    ensures record { (rows : List ℕ) → slice_index rows relocation.symbol ≡ row → OnOk result (out.new.items ≡ out.old.items ++ relocation_row_bytes (record_by rows relocation)) }
+fn place_record(out: &mut [u8], at: usize, relocation: Relocation, row: u32) -> usize
+    requires { at + 24 ≤ length out.old }
+    ensures record { (rows : List ℕ) → slice_index rows relocation.symbol ≡ row → take result out.new ≡ take at out.old ++ relocation_row_bytes (record_by rows relocation) }
+    ensures end { result ≡ at + 24 }
+    ensures len { length out.new ≡ length out.old }
     ensures fits { FitsRecord relocation }
 {
-    push_fields(
+    place_fields(
         out,
+        at,
         &[
             Field::of_u64(relocation.offset),
             Field::of_u32(type_of(relocation.flags)),

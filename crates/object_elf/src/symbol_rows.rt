@@ -1,14 +1,15 @@
 //! Rows of the symbol table: System V gABI, "Symbol Table".
 
-ghost use Rattle.std.specs.Prelude.{◌≡◌, ◌+◌, ◌<◌, ◌^◌, ◌++◌, IfOk, OnOk, flat_map, count_by};
+ghost use Rattle.std.specs.Prelude.{◌≡◌, ◌+◌, ◌*◌, ◌<◌, ◌≤◌, ◌^◌, ◌++◌, take, length, flat_map, count_by};
 ghost use Rattle.object_core.specs.Object.{is_local, is_in_section};
 ghost use Rattle.object_core.specs.ElfRows.{elf_binding, elf_symbol_type, elf_other, elf_shndx, elf_symbol};
 ghost use Rattle.object_elf.specs.File.{symbol_row_with, symbol_row_bytes, symbol_rows_from};
 ghost use Rattle.object_elf.specs.Writing.{is_chosen, chosen, names_size, FitsRow, FitRows, FitSizes};
 
-use byte_core::{Field, push_fields};
-use object_core::{Symbol, SymbolKind, SymbolScope, SymbolSection};
-use std::alloc::AllocError;
+use crate::object_names::symbol_name;
+use crate::next_row::NextRow;
+use byte_core::{Field, place_fields};
+use object_core::{Object, Symbol, SymbolKind, SymbolScope, SymbolSection};
 
 /// The symbol stands before those that aren't local.
 pub(crate) fn is_local(symbol: &Symbol) -> bool
@@ -38,38 +39,46 @@ pub(crate) fn local_count(symbols: &[Symbol]) -> usize
     symbols.iter().filter(|symbol| is_local(symbol)).count()
 }
 
-/// Appends the rows of the local symbols, or of the others. Their names stand one after the other from `place` on, and
-/// the answer is the place behind them.
-pub(crate) fn push_symbol_rows(
-    out: &mut Vec<u8>,
-    symbols: &[Symbol],
+/// Writes the rows of the local symbols, or of the others. Their names stand one after the other.
+pub(crate) fn place_symbol_rows(
+    out: &mut [u8],
+    next: NextRow,
+    object: &Object,
     local: bool,
-    place: u32,
-) -> Result<u32, AllocError>
-    requires fits { FitRows symbols.now }
-    requires names { place + names_size (chosen local symbols.now) < 2 ^ 32 }
-    ensures rows { OnOk result (out.new.items ≡ out.old.items ++ flat_map symbol_row_bytes (symbol_rows_from place (chosen local symbols.now))) }
-    ensures place { IfOk result (λ end. end ≡ place + names_size (chosen local symbols.now)) }
-    ensures sizes { OnOk result (FitSizes local symbols.now) }
+) -> NextRow
+    requires fits { FitRows (object.now).symbols }
+    requires room { next.at + 24 * length (chosen local (object.now).symbols) ≤ length out.old }
+    requires names { next.name + names_size (chosen local (object.now).symbols) < 2 ^ 32 }
+    ensures rows { take result.at out.new ≡ take next.at out.old ++ flat_map symbol_row_bytes (symbol_rows_from next.name (chosen local (object.now).symbols)) }
+    ensures at { result.at ≡ next.at + 24 * length (chosen local (object.now).symbols) }
+    ensures name { result.name ≡ next.name + names_size (chosen local (object.now).symbols) }
+    ensures len { length out.new ≡ length out.old }
+    ensures sizes { FitSizes local (object.now).symbols }
 {
-    let mut name = place;
-    for symbol in symbols {
+    let symbols = object.symbols();
+    let mut at = next.at;
+    let mut name = next.name;
+    for (k, symbol) in symbols.iter().enumerate() {
         if !is_chosen(symbol, local) {
             continue;
         }
-        push_symbol_row(out, symbol, name)?;
-        name += symbol.name.as_slice().len() as u32 + 1;
+        at = place_symbol_row(out, at, symbol, name);
+        name += symbol_name(object, k).len() as u32 + 1;
     }
-    Ok(name)
+    NextRow { at, name }
 }
 
-fn push_symbol_row(out: &mut Vec<u8>, symbol: &Symbol, name: u32) -> Result<(), AllocError>
-    requires { FitsRow symbol.now }
-    ensures row { OnOk result (out.new.items ≡ out.old.items ++ symbol_row_bytes (symbol_row_with name (elf_symbol symbol.now))) }
+fn place_symbol_row(out: &mut [u8], at: usize, symbol: &Symbol, name: u32) -> usize
+    requires fits { FitsRow symbol.now }
+    requires room { at + 24 ≤ length out.old }
+    ensures row { take result out.new ≡ take at out.old ++ symbol_row_bytes (symbol_row_with name (elf_symbol symbol.now)) }
+    ensures end { result ≡ at + 24 }
+    ensures len { length out.new ≡ length out.old }
     ensures size { (symbol.now).size < 2 ^ 64 }
 {
-    push_fields(
+    place_fields(
         out,
+        at,
         &[
             Field::of_u32(name),
             Field::of_u8(binding(symbol) * 16 + symbol_type(symbol)),
