@@ -1,7 +1,7 @@
 -- What a reader finds of rows, and the conditions of the definitions.
-use Rattle.std.proofs.Common.{◌≡◌, ◌≢◌, ℕ, ◌+◌, ◌-◌, ◌*◌, ◌/◌, ◌≤◌, ◌<◌, ◌&&◌, ◌==◌, not, List, length, take, drop, IsTrue, IsSome, arith, sym, ap, subst, refl, ◌∙◌, ◌⊎◌, inl, inr}
-use Rattle.byte_core.specs.Number.{bytes_at, text_at}
-use Rattle.image_read.specs.ElfFile.{header_of, section_row, symbol_row, symbol_row_at, section_name, symbol_name, text_in, entries}
+use Rattle.std.proofs.Common.{◌≡◌, ◌≢◌, ℕ, ◌+◌, ◌*◌, ◌/◌, ◌≤◌, ◌<◌, List, length, IsSome, arith, subst, refl, ◌∙◌, ◌⊎◌}
+use Rattle.byte_core.specs.Number.{text_at}
+use Rattle.image_read.specs.ElfFile.{header_of, section_row, symbol_row, symbol_row_at, symbol_name, text_in}
 use Rattle.image_read.specs.ElfImage.{IsStrings, IsSection, IsSymbol, IsSymbolTable}
 use Rattle.image_read.specs.ElfRows.{EachRow, SameSection, SameSymbol, HasStrings, HoldsStrings, IsPlaced, HasSymbolRows, IsTableOnlyAt, IsOpen}
 use Rattle.image_read.specs.declared.elf.rows.SectionRow.{SectionRow}

@@ -1,9 +1,9 @@
 -- What a reader of an ELF64 file asks of its rows, one after the other, and what it keeps of them.
-use Rattle.std.specs.Prelude.{◌≡◌, ◌≢◌, ℕ, ◌+◌, ◌-◌, ◌*◌, ◌/◌, ◌%◌, ◌^◌, ◌≤◌, ◌<◌, ◌==◌, ◌&&◌, not, if◌then◌else◌, IsTrue, List, [], ◌∷◌, ◌++◌, length, Option, Some, None, flat_map, map}
+use Rattle.std.specs.Prelude.{◌≡◌, ◌≢◌, ℕ, ◌+◌, ◌-◌, ◌*◌, ◌%◌, ◌^◌, ◌≤◌, ◌<◌, ◌==◌, ◌&&◌, not, if◌then◌else◌, IsTrue, List, [], ◌∷◌, ◌++◌, length, Option, Some, None, flat_map, map}
 use Rattle.std.specs.List.{range_with_len}
 use Rattle.byte_core.specs.Number.{bytes_at}
 use Rattle.image_read.specs.ElfFile.{header_of, ElfSectionRow, ElfSymbolRow, ElfRelocationRow, section_row, relocation_row, entries, symbol_table}
-use Rattle.image_read.specs.ElfImage.{IsStrings, IsSection, IsSymbol, IsSymbolTable, IsRelocations, ElfSectionData, section_data, records_for}
+use Rattle.image_read.specs.ElfImage.{IsStrings, IsSymbolTable, IsRelocations, ElfSectionData, section_data, records_for}
 use Rattle.image_read.specs.declared.elf.rows.SectionRow.{SectionRow}
 use Rattle.image_read.specs.declared.elf.rows.SymbolRow.{SymbolRow}
 use Rattle.image_read.specs.declared.elf.symbols.SymbolTable.{SymbolTable}

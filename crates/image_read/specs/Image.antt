@@ -12,11 +12,16 @@ Reads b (Elf image) = ElfReads b image
 Reads b (Mach image) = ⊥
 Reads b (Fat image) = ⊥
 
+-- a format reads the file
+pub record HasImage (b : List ℕ) : Type 0 where
+  pub image : Image
+  pub reads : Reads b image
+
 -- no format reads the file
 pub record HasNoImage (b : List ℕ) : Type 0 where
   pub none : (image : Image) → Reads b image → ⊥
 
--- why there is no image: no format reads the file, or memory ran out
+-- why there is no image: no format reads the file, or memory ran out for the image that it has
 abbrev pub ExplainsRead : List ℕ → ReadError → Type 0
 ExplainsRead b NoReading = HasNoImage b
-ExplainsRead b OutOfMemory = Unit {0}
+ExplainsRead b OutOfMemory = HasImage b

@@ -1,7 +1,6 @@
 //! Steps of readers: numbers and bytes at places, and tests with the cause that they give.
 
-ghost use Rattle.std.specs.Prelude.{◌≡◌, nat_le, ◌≤◌, ◌+◌, ◌^◌, ◌<◌, length, OnOk};
-ghost use Rattle.byte_core.specs.Number.{number_at, bytes_at};
+ghost use Rattle.std.specs.Prelude.{◌≡◌, nat_le, ◌≤◌, ◌+◌, length, OnOk};
 ghost use Rattle.pe_core.specs.Steps.{demand, number_or_short, within_or_short, field_at, address_width};
 
 use crate::pe_error::{Case, Error};

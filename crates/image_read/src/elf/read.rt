@@ -16,7 +16,7 @@ use crate::elf::texts::strings_of;
 use std::alloc::{AllocError, Global};
 
 /// The image of an ELF64 file. It is judged before any memory is taken.
-#[tactic(auto, using(crate::proofs::Laws::no_image))]
+#[tactic(auto, using(crate::proofs::Laws::no_image, crate::proofs::Laws::elf_has_image))]
 pub fn read_elf<'a>(alloc: Global, bytes: &'a [u8]) -> Result<ElfImage<'a>, ReadError>
     ensures ok { IfOk result (ElfReads bytes.now) }
     ensures cause { IfErr result (ExplainsRead bytes.now) }

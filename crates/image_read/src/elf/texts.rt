@@ -8,6 +8,7 @@ ghost use Rattle.image_read.specs.ElfRows.{HasStrings, HoldsStrings};
 
 use crate::elf::file::ElfFile;
 use crate::elf::rows::SHT_STRTAB;
+use memchr::memchr;
 
 /// The text from `at` up to the first zero byte, None where there is none.
 #[tactic(auto, using(crate::proofs::Texts::text_past))]
@@ -42,11 +43,12 @@ pub fn text_or_empty(strings: &[u8], at: u32) -> &[u8]
     }
 }
 
+#[tactic(auto, using(crate::proofs::FirstZero::first_zero))]
 fn first_zero(bytes: &[u8]) -> Option<usize>
     ensures first { result ≡ position_from (λ x. x == 0) 0 bytes.now }
     ensures inside { IfSome result (λ n. n < length bytes.now) }
 {
-    bytes.iter().position(|byte| *byte == 0)
+    memchr(0, bytes)
 }
 
 /// The bytes of string section `k`, None where it isn't one or leaves the file.
