@@ -1,5 +1,5 @@
 -- What a contract sees of the parts that the writer lists.
-use Rattle.std.specs.Prelude.{◌≡◌, ℕ, ◌+◌, ◌*◌, ◌<◌, ◌≤◌, ◌^◌, Bool, List, [], ◌∷◌, ◌++◌, length, take, map, filter, flat_map, fold, sum_by, slice_index, codes}
+use Rattle.std.specs.Prelude.{◌≡◌, ℕ, ◌+◌, ◌*◌, ◌<◌, ◌≤◌, ◌^◌, Bool, List, [], ◌∷◌, ◌++◌, length, take, map, filter, flat_map, fold, sum_by, slice_get, slice_index, Some, codes}
 use Rattle.std.specs.List.{enumerate_from}
 use Rattle.object_core.specs.Object.{SectionData}
 use Rattle.object_core.specs.LinkTable.{ElfTable}
@@ -53,6 +53,16 @@ starts_from end (p ∷ ps) = start_after end p ∷ starts_from (end_after end p)
 -- these parts' places were appended, from one end to another
 pub record PushesPlaces (old new : List ℕ) (from to : ℕ) (parts : List Part) : Type 0 where
   pub places : new ≡ old ++ starts_from from parts
+  pub end : to ≡ fold end_after from parts
+
+-- parts behind a part that ends here start at the places from this number on
+unfoldable pub HasStarts : List ℕ → ℕ → ℕ → List Part → Type 0
+HasStarts places number end [] = Unit {0}
+HasStarts places number end (p ∷ ps) = (slice_get places number ≡ Some (start_after end p)) × HasStarts places (number + 1) (end_after end p) ps
+
+-- they do, and they end here
+pub record StandBehind (places : List ℕ) (number from to : ℕ) (parts : List Part) : Type 0 where
+  pub starts : HasStarts places number from parts
   pub end : to ≡ fold end_after from parts
 
 -- -- headers of parts one after the other
