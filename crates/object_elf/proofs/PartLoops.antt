@@ -1,6 +1,6 @@
 -- Loops over the parts of a file.
 use Rattle.std.proofs.Common.{◌≡◌, ℕ, ◌+◌, ◌*◌, ◌<◌, ◌≤◌, ◌^◌, List, [], ◌∷◌, ◌++◌, length, take, drop, get_or, map, refl, ap, sym, ◌∙◌, arith, Bool, true, false, cond, Option, Some, None, slice_get, append_assoc, append-nil, length-append, length-take-le, take-append-drop, subst}
-use Rattle.std.specs.Prelude.{fold, filter, flat_map, sum_by, slice_index, MatchOption, IsSome}
+use Rattle.std.specs.Prelude.{fold, filter, flat_map, sum_by, slice_index, MatchOption}
 use Rattle.std.specs.List.{enumerate_from}
 use Rattle.std.specs.Int.{next_multiple_of}
 use Rattle.std.proofs.lemmas.Grind.{flat_map-append}

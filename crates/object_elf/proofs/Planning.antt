@@ -11,7 +11,7 @@ use Rattle.byte_core.proofs.Lists.{get_map, get_within, get_exists, below_or_her
 use Rattle.object_core.specs.declared.symbol.Symbol.{Symbol}
 use Rattle.object_core.specs.Object.{ObjectData}
 use Rattle.object_core.specs.ElfRows.{elf_table_of, row_in}
-use Rattle.object_elf.specs.Layout.{Part, parts_of, start_after, end_after, end_of_parts, start_of, file_length}
+use Rattle.object_elf.specs.Layout.{Part, parts_of, start_after, end_after, end_of_parts, file_length}
 use Rattle.object_elf.specs.Writing.{AreRowsOf}
 use Rattle.object_elf.specs.PartView.{starts_from, PushesPlaces}
 use Rattle.object_elf.specs.Plan.{PlanData, plan_of, row_of, rows_of, place_of, places_of}

@@ -1,8 +1,8 @@
 use Rattle.std.proofs.Common.{◌≡◌, ◌+◌, ◌-◌, ◌∷◌, [], ◌++◌, arith, ap, sym, refl, ◌∙◌, append_assoc, length, map, length-append}
 use Rattle.std.proofs.lemmas.List.{length-map}
 use Rattle.object_core.specs.ElfRows.{elf_table_of}
-use Rattle.object_elf.specs.Layout.{note_part}
-use Rattle.object_elf.specs.PartView.{content_part_of, relocation_parts_from, table_parts}
+use Rattle.object_elf.specs.Layout.{note_part, table_parts}
+use Rattle.object_elf.specs.PartView.{content_part_of, relocation_parts_from}
 use Rattle.object_elf.proofs.Tables.{parts_are, table_row_is}
 use Rattle.object_elf.proofs.Emitting.{part_count_is}
 use Rattle.object_elf.proofs.PartLoops.{parts_count, note_split, stand_none, stand_more, over_as, stops, last_part}

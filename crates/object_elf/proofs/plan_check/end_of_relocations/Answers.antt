@@ -1,4 +1,4 @@
-use Rattle.std.proofs.Common.{◌≡◌, ◌+◌, ◌*◌, ◌<◌, ◌≤◌, ◌∷◌, [], arith, ap, sym, ◌∙◌, length, take, drop, length-append, length-take-le}
+use Rattle.std.proofs.Common.{◌+◌, ◌∷◌, [], arith, ap, sym, ◌∙◌, length, take, drop, length-append, length-take-le}
 use Rattle.byte_core.proofs.Lists.{item_get}
 use Rattle.object_elf.specs.PartView.{relocation_parts_from, relocation_part_of}
 use Rattle.object_elf.proofs.SectionLoops.{has_none, has_some}

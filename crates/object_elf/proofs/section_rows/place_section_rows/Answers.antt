@@ -1,8 +1,8 @@
 use Rattle.std.proofs.Common.{◌≡◌, ◌+◌, ◌-◌, arith, sym, refl, ◌∙◌, length, map}
 use Rattle.std.proofs.lemmas.List.{length-map}
 use Rattle.object_core.specs.ElfRows.{elf_table_of}
-use Rattle.object_elf.specs.Layout.{note_part, symbol_table_row}
-use Rattle.object_elf.specs.PartView.{content_part_of, relocation_parts_from, table_parts}
+use Rattle.object_elf.specs.Layout.{note_part, symbol_table_row, table_parts}
+use Rattle.object_elf.specs.PartView.{content_part_of, relocation_parts_from}
 use Rattle.object_elf.proofs.Tables.{parts_are, table_row_is, section_names_size_is}
 use Rattle.object_elf.proofs.Emitting.{part_count_is}
 use Rattle.object_elf.proofs.PartLoops.{parts_count, room_whole, room_contents, room_note, room_relocations, room_tables, rows_joined, rows_whole}

@@ -1,7 +1,6 @@
 use Rattle.std.proofs.Common.{◌≡◌, ap, sym, arith, not, ◌∙◌, false, true}
 use Rattle.std.specs.Prelude.{is_ok}
 use Rattle.std.proofs.lemmas.Bool.{eqb-true, eq-eqb}
-use Rattle.object_core.specs.ElfRows.{elf_table_of}
 use Rattle.object_elf.specs.PlainCounts.{plain_counts}
 use Rattle.object_elf.specs.Plan.{rows_of}
 use Rattle.object_elf.proofs.Judging.{within_limits, ok_cause}
