@@ -16,7 +16,7 @@ use Rattle.object_elf.specs.ElfHolds.{null_section}
 use Rattle.object_elf.specs.File.{section_row_bytes, section_row_with, section_rows, section_rows_from}
 use Rattle.object_elf.specs.Plan.{HasPlaces, places_of}
 use Rattle.object_elf.specs.Writing.{has_relocations}
-use Rattle.object_elf.specs.PartView.{part_view, part_name, part_name_size, has_records, relocation_part_of, relocation_parts_from, starts_from, PushesPlaces, rows_at, PlacesRows, HasRoom, HasStarts, StandBehind}
+use Rattle.object_elf.specs.PartView.{part_view, part_name, part_name_size, has_records, relocation_part_of, relocation_parts_from, starts_from, PushesPlaces, rows_at, PlacesRows, HasRoom, HasStarts, StandBehind, EndsAt}
 use Rattle.object_elf.proofs.NameLoops.{get_drop}
 use Rattle.object_elf.proofs.Planning.{drop_next, first_get, index_first, length-places_of, places_are}
 use Rattle.object_elf.proofs.PartCases.{names_of_parts}
@@ -365,8 +365,7 @@ pub places_held : (places : List ℕ) (ps : List Part) → places ≡ places_of 
 places_held places ps e = starts_held places 0 64 ps (e ∙ places_are ps)
 
 -- the last of the parts
-pub last_part : (r : Option ℕ) (places : List ℕ) (m y : ℕ) (ps part all : List Part) → StandBehind places 0 64 y ps → m ≡ 0 + length ps → all ≡ ps ++ part
-    → MatchOption r (HasStarts places m y part → 2 ^ 64 ≤ fold end_after y part) (λ z. StandBehind places m y z part) → MatchOption r (HasStarts places 0 64 all → 2 ^ 64 ≤ fold end_after 64 all) (λ z. StandBehind places 0 64 z all)
+pub last_part : (r : Option ℕ) (places : List ℕ) (m y : ℕ) (ps part all : List Part) → StandBehind places 0 64 y ps → m ≡ 0 + length ps → all ≡ ps ++ part → EndsAt r places m y part → EndsAt r places 0 64 all
 last_part None places m y ps part all f e w r = stops places 0 m 64 y ps part [] all f e (w ∙ ap (λ l. ps ++ l) (sym (append-nil part))) r
 last_part (Some z) places m y ps part all f e w r = stand_more places 0 m 64 y z ps part all f r e w
 

@@ -1,5 +1,5 @@
 -- What a contract sees of the parts that the writer lists.
-use Rattle.std.specs.Prelude.{◌≡◌, ℕ, ◌+◌, ◌*◌, ◌<◌, ◌≤◌, ◌^◌, Bool, List, [], ◌∷◌, ◌++◌, length, take, map, filter, flat_map, fold, sum_by, slice_get, slice_index, Some}
+use Rattle.std.specs.Prelude.{◌≡◌, ℕ, ◌+◌, ◌*◌, ◌<◌, ◌≤◌, ◌^◌, Bool, List, [], ◌∷◌, ◌++◌, length, take, map, filter, flat_map, fold, sum_by, slice_get, slice_index, Some, Option, MatchOption}
 use Rattle.std.specs.List.{enumerate_from}
 use Rattle.object_core.specs.Object.{SectionData}
 use Rattle.image_read.specs.ElfFile.{ElfSectionRow}
@@ -55,6 +55,10 @@ HasStarts places number end (p ∷ ps) = (slice_get places number ≡ Some (star
 pub record StandBehind (places : List ℕ) (number from to : ℕ) (parts : List Part) : Type 0 where
   pub starts : HasStarts places number from parts
   pub end : to ≡ fold end_after from parts
+
+-- an answer that tells where they end; none where they don't start there, or end past the numbers of 64 bits
+abbrev pub EndsAt : Option ℕ → List ℕ → ℕ → ℕ → List Part → Type 0
+EndsAt answer places number end parts = MatchOption answer (HasStarts places number end parts → 2 ^ 64 ≤ fold end_after end parts) (λ to. StandBehind places number end to parts)
 
 -- -- headers of parts one after the other
 

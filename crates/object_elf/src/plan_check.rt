@@ -1,10 +1,10 @@
 //! Whether a plan is an object's own. Nothing here takes memory.
 
-ghost use Rattle.std.specs.Prelude.{◌≡◌, ◌+◌, ◌<◌, ◌≤◌, ◌^◌, true, false, Some, MatchOption, map, length, slice_get, fold};
+ghost use Rattle.std.specs.Prelude.{◌≡◌, ◌+◌, ◌<◌, ◌≤◌, ◌^◌, true, false, Some, MatchOption, map, length, slice_get};
 ghost use Rattle.object_core.specs.ElfRows.{elf_table_of};
 ghost use Rattle.object_elf.specs.Layout.{start_after, end_after, file_length, parts_of, symbol_table_row};
 ghost use Rattle.object_elf.specs.Limits.{IsWithinLimits};
-ghost use Rattle.object_elf.specs.PartView.{part_view, content_part_of, relocation_parts_from, HasStarts, StandBehind};
+ghost use Rattle.object_elf.specs.PartView.{part_view, content_part_of, relocation_parts_from, EndsAt};
 ghost use Rattle.object_elf.specs.Plan.{HasPlaces, places_of, rows_of};
 ghost use Rattle.object_elf.specs.PlainCounts.{plain_counts};
 
@@ -62,7 +62,7 @@ pub(crate) fn length_at(places: &[u64], object: &Object) -> Option<u64>
 fn end_of_all(places: &[u64], object: &Object, table: u32) -> Option<u64>
     requires limits { IsWithinLimits (plain_counts object.now) }
     requires table { table ≡ symbol_table_row (elf_table_of object.now) }
-    ensures { MatchOption result (HasStarts places.now 0 64 (parts_of (elf_table_of object.now)) → 2 ^ 64 ≤ fold end_after 64 (parts_of (elf_table_of object.now))) (λ end. StandBehind places.now 0 64 end (parts_of (elf_table_of object.now))) }
+    ensures { EndsAt result places.now 0 64 (parts_of (elf_table_of object.now)) }
 {
     let count = object.sections().len();
     let end = end_of_contents(places, object)?;
@@ -75,7 +75,7 @@ fn end_of_all(places: &[u64], object: &Object, table: u32) -> Option<u64>
 /// Where the sections of the object end, if they start at these places.
 fn end_of_contents(places: &[u64], object: &Object) -> Option<u64>
     requires { (object.now).content_sum < 2 ^ 63 }
-    ensures { MatchOption result (HasStarts places.now 0 64 (map content_part_of (object.now).sections) → 2 ^ 64 ≤ fold end_after 64 (map content_part_of (object.now).sections)) (λ end. StandBehind places.now 0 64 end (map content_part_of (object.now).sections)) }
+    ensures { EndsAt result places.now 0 64 (map content_part_of (object.now).sections) }
 {
     let sections = object.sections();
     let mut next = 64;
@@ -89,7 +89,7 @@ fn end_of_contents(places: &[u64], object: &Object) -> Option<u64>
 /// Where the relocations end behind this place, if they start at these places. The symbol table has the header row `link`.
 fn end_of_relocations(places: &[u64], end: u64, object: &Object, link: u32) -> Option<u64>
     requires { length (object.now).sections < 65280 }
-    ensures { MatchOption result (HasStarts places.now (length (object.now).sections + 1) end (relocation_parts_from link 1 (object.now).sections) → 2 ^ 64 ≤ fold end_after end (relocation_parts_from link 1 (object.now).sections)) (λ next. StandBehind places.now (length (object.now).sections + 1) end next (relocation_parts_from link 1 (object.now).sections)) }
+    ensures { EndsAt result places.now (length (object.now).sections + 1) end (relocation_parts_from link 1 (object.now).sections) }
 {
     let sections = object.sections();
     let mut number = sections.len() + 1;
@@ -110,7 +110,7 @@ fn end_of_relocations(places: &[u64], end: u64, object: &Object, link: u32) -> O
 /// one ends past the numbers of 64 bits.
 fn end_at(places: &[u64], number: usize, end: u64, parts: &[PartHeader<'_>]) -> Option<u64>
     requires { number + length parts.now < 2 ^ 63 }
-    ensures { MatchOption result (HasStarts places.now number end (map part_view parts.now) → 2 ^ 64 ≤ fold end_after end (map part_view parts.now)) (λ next. StandBehind places.now number end next (map part_view parts.now)) }
+    ensures { EndsAt result places.now number end (map part_view parts.now) }
 {
     let mut next = end;
     for (k, part) in parts.iter().enumerate() {
