@@ -1,4 +1,4 @@
--- What a contract sees of the parts that the writer lists.
+-- What a contract sees of the parts of an object's file, one after the other.
 use Rattle.std.specs.Prelude.{◌≡◌, ℕ, ◌+◌, ◌*◌, ◌<◌, ◌≤◌, ◌^◌, Bool, List, [], ◌∷◌, ◌++◌, length, take, map, filter, flat_map, fold, sum_by, slice_get, slice_index, Some, Option, MatchOption}
 use Rattle.std.specs.List.{enumerate_from}
 use Rattle.object_core.specs.Object.{SectionData}
