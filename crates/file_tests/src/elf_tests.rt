@@ -7,7 +7,7 @@ use ir_core::{Architecture, BinaryFormat};
 use object_core::{
     Object, StandardSection, Symbol, SymbolKind, SymbolName, SymbolScope, SymbolSection,
 };
-use object_elf::emit_elf;
+use object_elf::{elf_plan, emit_elf, fill_elf};
 use std::alloc::{AllocError, Global};
 use std::test::Fail;
 
@@ -53,6 +53,27 @@ fn an_empty_part_has_480_bytes(rt: HostRuntime) -> Result<(), Fail> {
 fn an_exported_main_has_592_bytes(rt: HostRuntime) -> Result<(), Fail> {
     let object = main_object(rt.alloc())?;
     let file = emit_elf(rt.alloc(), &object)?;
+    assert_eq!(rt; file.as_slice(), MAIN_FILE.as_slice());
+    Ok(())
+}
+
+#[test]
+fn a_plan_fits_its_own_object_and_no_other(rt: HostRuntime) -> Result<(), Fail> {
+    let object = main_object(rt.alloc())?;
+    let other = file_object(rt.alloc())?;
+    let plan = elf_plan(rt.alloc(), &object)?;
+    assert!(rt; plan.fits(&object));
+    assert!(rt; !plan.fits(&other));
+    Ok(())
+}
+
+#[test]
+fn a_slice_of_ones_becomes_the_592_bytes_of_main(rt: HostRuntime) -> Result<(), Fail> {
+    let object = main_object(rt.alloc())?;
+    let plan = elf_plan(rt.alloc(), &object)?;
+    assert_eq!(rt; plan.len(), 592);
+    let mut file = [0xffu8; 592];
+    fill_elf(&object, &plan, &mut file);
     assert_eq!(rt; file.as_slice(), MAIN_FILE.as_slice());
     Ok(())
 }

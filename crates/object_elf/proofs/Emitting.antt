@@ -3,7 +3,7 @@ use Rattle.std.proofs.Common.{◌≡◌, ℕ, ◌+◌, ◌-◌, ◌*◌, ◌<◌
 use Rattle.std.specs.Prelude.{flat_map, filter, sum_by, count_by, slice_index}
 use Rattle.std.specs.Int.{next_multiple_of}
 use Rattle.std.proofs.lemmas.Grind.{flat_map-append}
-use Rattle.std.proofs.lemmas.List.{map-append, length-map}
+use Rattle.std.proofs.lemmas.List.{map-append}
 use Rattle.std.proofs.lemmas.List.Sums.{sum_by-cons}
 use Rattle.byte_core.specs.Number.{little_bytes}
 use Rattle.byte_core.specs.Fields.{field_bytes}
@@ -19,7 +19,7 @@ use Rattle.object_core.specs.Appending.{AreSections}
 use Rattle.object_core.specs.WellFormed.{IsFormedElf}
 use Rattle.object_core.specs.Object.{SectionData, ObjectData, is_local, is_global}
 use Rattle.object_core.specs.ElfRows.{elf_machine, elf_symbol, elf_section, elf_relocation, elf_table_of, row_in}
-use Rattle.object_elf.specs.Layout.{Part, strings_size, with_zero, string_bytes_of, is_relocated, section_names, symbol_names, parts_of, end_of_parts, headers_start}
+use Rattle.object_elf.specs.Layout.{strings_size, with_zero, string_bytes_of, is_relocated, section_names, symbol_names, parts_of, end_of_parts, headers_start}
 use Rattle.object_elf.specs.ElfHolds.{null_symbol, header_with, header_for, record_for}
 use Rattle.object_elf.specs.File.{relocation_row_bytes, header_bytes, section_row_bytes, symbol_row_bytes, symbol_rows_from, symbol_contents, string_contents, section_contents, relocation_contents, section_rows, contents_of, elf_file}
 use Rattle.object_elf.specs.Fitting.{FitsElf, HasContents}

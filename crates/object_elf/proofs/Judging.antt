@@ -1,6 +1,6 @@
 -- Answers that are judged by the limits.
 use Rattle.std.proofs.Common.{◌≡◌, ℕ, ◌<◌, ◌^◌, refl, ap, Bool, true, false, cond, Option, Some, None, Result, Ok, Err}
-use Rattle.std.specs.Prelude.{nat_le, IfSome}
+use Rattle.std.specs.Prelude.{nat_le, IfSome, is_ok}
 use Rattle.std.specs.Option.{option_or}
 use Rattle.std.proofs.lemmas.Bool.{leb-false}
 use Rattle.object_core.specs.declared.error.EmitError.{EmitError}
@@ -66,3 +66,7 @@ judged_ok {A} x c none = record { ok = none; err = tt; told = λ h. rw none tt }
 
 pub judged_as : {A : Type 0} (r : Result A EmitError) (o : ObjectData) → IsJudged {A = A} r (plain_counts o) → IsJudged {A = A} r (elf_counts (elf_table_of o) o.content_sum)
 judged_as {A} r o j = rw (counts_are o) j
+
+pub ok_cause : {A : Type 0} (r : Result A EmitError) (c : Counts) → is_ok r ≡ true → IsJudged {A = A} r c → limit_cause c ≡ None
+ok_cause {A} (Ok x) c h j = j.ok
+ok_cause {A} (Err e) c h j = absurd (cc)

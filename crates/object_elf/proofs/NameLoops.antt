@@ -1,12 +1,12 @@
 -- Loops over the names of an object.
-use Rattle.std.proofs.Common.{◌≡◌, ℕ, ◌+◌, ◌<◌, List, ◌∷◌, ◌++◌, length, drop, map, ap, sym, ◌∙◌, arith, Some, slice_get, true, refl}
+use Rattle.std.proofs.Common.{◌≡◌, ℕ, ◌+◌, List, ◌∷◌, ◌++◌, length, drop, map, ap, sym, ◌∙◌, Some, slice_get, true, refl}
 use Rattle.std.specs.Prelude.{filter, flat_map, sum_by}
 use Rattle.std.proofs.lemmas.List.Sums.{sum_by-cons}
 use Rattle.std.proofs.lemmas.Option.{get_or_from_slice_get}
 use Rattle.byte_core.proofs.Lists.{get_within, item_drop, flat_more}
 use Rattle.object_core.specs.Object.{SectionData}
 use Rattle.object_elf.specs.Layout.{with_zero}
-use Rattle.object_elf.specs.Writing.{own_name, own_name_size, record_name, record_name_size, has_relocations}
+use Rattle.object_elf.specs.Writing.{own_name, own_name_size, record_name_size, has_relocations}
 
 -- the element of a place is the first that is left there
 pub get_drop : {X : Type 0} (xs : List X) (k : ℕ) (x : X) → slice_get xs k ≡ Some x → drop k xs ≡ x ∷ drop (k + 1) xs

@@ -6,7 +6,7 @@ use Rattle.std.proofs.lemmas.List.{length-map, map-append}
 use Rattle.std.proofs.lemmas.List.Sums.{sum_by-cons, length-filter}
 use Rattle.byte_core.specs.LaidOut.{Aligned}
 use Rattle.object_core.specs.LinkTable.{ElfTable, ElfTableSection}
-use Rattle.object_elf.specs.Layout.{Part, is_relocated, strings_size, section_names, symbol_names, content_part, note_part, relocation_part, relocation_name, symbol_part, string_part, parts_of}
+use Rattle.object_elf.specs.Layout.{Part, is_relocated, strings_size, section_names, symbol_names, content_part, note_part, relocation_part, relocation_name, symbol_part, string_part, table_parts, parts_of}
 use Rattle.object_elf.specs.File.{section_contents, relocation_contents, symbol_contents, string_contents, contents_of}
 use Rattle.object_elf.specs.PartView.{part_name}
 use Rattle.byte_core.proofs.Lists.{get_left, get_right, get_append, get_map, get_map_from, get_filter}
@@ -82,9 +82,6 @@ content_parts t = map content_part t.sections
 
 abbrev middle_parts : ElfTable → List Part
 middle_parts t = note_part ∷ map (relocation_part t) (filter has_relocations (enumerate_from 1 t.sections))
-
-abbrev table_parts : ElfTable → List Part
-table_parts t = symbol_part t ∷ string_part (codes ".strtab") (strings_size (symbol_names t)) ∷ string_part (codes ".shstrtab") (strings_size (section_names t)) ∷ []
 
 length-front : (t : ElfTable) → length (content_parts t ++ middle_parts t) ≡ front_count t
 length-front t =

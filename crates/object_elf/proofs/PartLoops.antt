@@ -1,24 +1,24 @@
 -- Loops over the parts of a file.
-use Rattle.std.proofs.Common.{◌≡◌, ℕ, ◌+◌, ◌*◌, ◌<◌, ◌≤◌, ◌^◌, List, [], ◌∷◌, ◌++◌, length, take, drop, get_or, map, refl, ap, sym, ◌∙◌, arith, Bool, true, false, cond, Option, Some, None, slice_get, append_assoc, append-nil, length-append, length-take-le, take-append-drop}
-use Rattle.std.specs.Prelude.{fold, filter, flat_map, sum_by, slice_index, MatchOption, IsSome}
+use Rattle.std.proofs.Common.{◌≡◌, ℕ, ◌+◌, ◌*◌, ◌<◌, ◌≤◌, ◌^◌, List, [], ◌∷◌, ◌++◌, length, take, drop, get_or, map, refl, ap, sym, ◌∙◌, arith, Bool, true, false, cond, Option, Some, None, slice_get, append_assoc, append-nil, length-append, length-take-le, take-append-drop, subst}
+use Rattle.std.specs.Prelude.{fold, filter, flat_map, sum_by, slice_index, MatchOption}
 use Rattle.std.specs.List.{enumerate_from}
 use Rattle.std.specs.Int.{next_multiple_of}
 use Rattle.std.proofs.lemmas.Grind.{flat_map-append}
-use Rattle.std.proofs.lemmas.List.{take_more, drop_more, map-append, length-map}
+use Rattle.std.proofs.lemmas.List.{take_more, drop_more, drop_all, map-append, length-map}
 use Rattle.std.proofs.lemmas.List.Sums.{sum_by-cons, sum_by-append, fold-append}
 use Rattle.byte_core.proofs.Lists.{item_take, get_within, filter_append}
 use Rattle.std.proofs.lemmas.Option.{get_or_from_slice_get}
 use Rattle.object_core.specs.Object.{SectionData}
 use Rattle.object_elf.specs.declared.layout.PartHeader.{PartHeader}
 use Rattle.object_elf.specs.declared.next_row.NextRow.{NextRow}
-use Rattle.object_elf.specs.Layout.{Part, is_stored, start_after, end_after, strings_size, section_names, parts_of}
+use Rattle.object_elf.specs.Layout.{Part, is_stored, start_after, end_after, end_of_parts, strings_size, section_names, parts_of, file_length}
 use Rattle.object_elf.specs.ElfHolds.{null_section}
 use Rattle.object_elf.specs.File.{section_row_bytes, section_row_with, section_rows, section_rows_from}
-use Rattle.object_elf.specs.Plan.{places_of}
+use Rattle.object_elf.specs.Plan.{HasPlaces, places_of}
 use Rattle.object_elf.specs.Writing.{has_relocations}
-use Rattle.object_elf.specs.PartView.{part_view, part_name, part_name_size, has_records, relocation_part_of, relocation_parts_from, starts_from, PushesPlaces, rows_at, PlacesRows, HasRoom}
+use Rattle.object_elf.specs.PartView.{part_view, part_name, part_name_size, has_records, relocation_part_of, relocation_parts_from, starts_from, PushesPlaces, rows_at, PlacesRows, HasRoom, HasStarts, StandBehind, EndsAt}
 use Rattle.object_elf.proofs.NameLoops.{get_drop}
-use Rattle.object_elf.proofs.Planning.{drop_next, index_first, length-places_of, places_are}
+use Rattle.object_elf.proofs.Planning.{drop_next, first_get, index_first, length-places_of, places_are}
 use Rattle.object_elf.proofs.PartCases.{names_of_parts}
 use Rattle.object_core.specs.LinkTable.{ElfTable}
 
@@ -88,6 +88,15 @@ from_split link xs k s e t =
     ∙ from_append link 1 (take k xs) (s ∷ drop (k + 1) xs)
     ∙ ap (λ l. relocation_parts_from link 1 (take k xs) ++ l)
     (from_some link (1 + length (take k xs)) s (drop (k + 1) xs) t ∙ ap (λ n. relocation_part_of link (n, s) ∷ relocation_parts_from link (n + 1) (drop (k + 1) xs)) (row_of_section xs k s e))
+
+length-cond-le : (f : ℕ × SectionData → Part) (x : ℕ × SectionData) (es : List (ℕ × SectionData)) (b : Bool) → length (map f (cond b (x ∷ es) es)) ≤ 1 + length (map f es)
+length-cond-le f x es true = omega arith
+length-cond-le f x es false = omega arith
+
+-- there are at most as many parts as sections
+pub length-from-le : (link n : ℕ) (xs : List SectionData) → length (relocation_parts_from link n xs) ≤ length xs
+length-from-le link n [] = omega arith
+length-from-le link n (x ∷ xs) = omega (arith, length-cond-le (relocation_part_of link) (n, x) (filter has_records (enumerate_from (n + 1) xs)) (has_relocations x), length-from-le link (n + 1) xs)
 
 -- ---- places that are appended
 
@@ -274,3 +283,106 @@ pub pushes_joined : (a b c d f : List ℕ) (e1 e2 e3 e4 e5 : ℕ) (note : Part) 
 pushes_joined a b c d f e1 e2 e3 e4 e5 note cs rs ts all p n r t w =
     let middle = pushes_more b c d e2 e3 e4 (note ∷ []) rs (note ∷ rs) n r refl in
     pushes_more a d f e1 e4 e5 (cs ++ note ∷ rs) ts all (pushes_more a b d e1 e2 e4 cs (note ∷ rs) (cs ++ note ∷ rs) p middle refl) t w
+
+-- ---- parts that start at the places that are kept
+
+has_front : (places : List ℕ) (n end : ℕ) (ps qs : List Part) → HasStarts places n end (ps ++ qs) → HasStarts places n end ps
+unfolding HasStarts
+has_front places n end [] qs h = tt
+has_front places n end (p ∷ ps) qs h = (h.0, has_front places (n + 1) (end_after end p) ps qs h.1)
+
+has_back : (places : List ℕ) (n end : ℕ) (ps qs : List Part) → HasStarts places n end (ps ++ qs) → HasStarts places (n + length ps) (fold end_after end ps) qs
+unfolding HasStarts
+has_back places n end [] qs h = let same : n + 0 ≡ n = omega arith in rw same h
+has_back places n end (p ∷ ps) qs h =
+    let same : n + 1 + length ps ≡ n + length (p ∷ ps) = omega arith in
+    subst (λ k. HasStarts places k (fold end_after (end_after end p) ps) qs) same (has_back places (n + 1) (end_after end p) ps qs h.1)
+
+has_both : (places : List ℕ) (n end : ℕ) (ps qs : List Part) → HasStarts places n end ps → HasStarts places (n + length ps) (fold end_after end ps) qs → HasStarts places n end (ps ++ qs)
+unfolding HasStarts
+has_both places n end [] qs h g = let same : n + 0 ≡ n = omega arith in rw same at g
+has_both places n end (p ∷ ps) qs h g =
+    let same : n + length (p ∷ ps) ≡ n + 1 + length ps = omega arith in
+    (h.0, has_both places (n + 1) (end_after end p) ps qs h.1 (subst (λ k. HasStarts places k (fold end_after (end_after end p) ps) qs) same g))
+
+pub stand_none : (places : List ℕ) (n end : ℕ) → StandBehind places n end end []
+unfolding HasStarts
+stand_none places n end = record { starts = tt; end = refl }
+
+pub stand_one : (places : List ℕ) (n end next : ℕ) (p : Part) → (slice_get places n ≡ Some (start_after end p)) × (next ≡ end_after end p) → StandBehind places n end next (p ∷ [])
+unfolding HasStarts
+stand_one places n end next p h = record { starts = (h.0, tt); end = h.1 }
+
+pub stand_more : (places : List ℕ) (n m x y z : ℕ) (ps qs all : List Part) → StandBehind places n x y ps → StandBehind places m y z qs → m ≡ n + length ps → all ≡ ps ++ qs → StandBehind places n x z all
+stand_more places n m x y z ps qs all f g e w =
+    let behind = subst (λ k. HasStarts places (n + length ps) k qs) f.end (subst (λ k. HasStarts places k y qs) e g.starts) in
+    rw w (record { starts = has_both places n x ps qs f.starts behind; end = g.end ∙ ap (λ k. fold end_after k qs) f.end ∙ sym (fold-append end_after x ps qs) })
+
+-- what can't be among the parts can't be in front of them
+pub stops : (places : List ℕ) (n m x y : ℕ) (ps part rest all : List Part) → StandBehind places n x y ps → m ≡ n + length ps → all ≡ ps ++ (part ++ rest) → (HasStarts places m y part → 2 ^ 64 ≤ fold end_after y part) → HasStarts places n x all → 2 ^ 64 ≤ fold end_after x all
+stops places n m x y ps part rest all f e w over h =
+    let behind = has_back places n x ps (part ++ rest) (subst (HasStarts places n x) w h) in
+    let here = has_front places (n + length ps) (fold end_after x ps) part rest behind in
+    let moved = subst (λ k. HasStarts places m k part) (sym f.end) (subst (λ k. HasStarts places k (fold end_after x ps) part) (sym e) here) in
+    omega (
+      arith,
+      over moved,
+      ap (λ k. fold end_after k part) f.end,
+      ends-le (fold end_after (fold end_after x ps) part) rest,
+      fold-append end_after (fold end_after x ps) part rest,
+      fold-append end_after x ps (part ++ rest),
+      ap (fold end_after x) w,
+    )
+
+pub one_stops : (places : List ℕ) (n end : ℕ) (p : Part) → (slice_get places n ≡ Some (start_after end p) → 2 ^ 64 ≤ end_after end p) → HasStarts places n end (p ∷ []) → 2 ^ 64 ≤ fold end_after end (p ∷ [])
+unfolding HasStarts
+one_stops places n end p over h = over h.0
+
+-- a part that is told in other words
+pub over_as : (places : List ℕ) (n end : ℕ) (p q : Part) → p ≡ q → (HasStarts places n end (p ∷ []) → 2 ^ 64 ≤ fold end_after end (p ∷ [])) → HasStarts places n end (q ∷ []) → 2 ^ 64 ≤ fold end_after end (q ∷ [])
+over_as places n end p q e f = subst (λ x. HasStarts places n end (x ∷ []) → 2 ^ 64 ≤ fold end_after end (x ∷ [])) e f
+
+-- relocations past the numbers of 64 bits
+pub records_over : (end link n : ℕ) (s : SectionData) → 2 ^ 64 ≤ 24 * length s.relocations → 2 ^ 64 ≤ fold end_after end (relocation_part_of link (n, s) ∷ [])
+records_over end link n s h = omega (arith, h)
+
+-- ---- all places
+
+starts_here : (places : List ℕ) (k end : ℕ) (ps : List Part) → HasStarts places k end ps → length places ≡ k + length ps → drop k places ≡ starts_from end ps
+unfolding HasStarts starts_from
+starts_here places k end [] h n = drop_all k places (omega (arith, n))
+starts_here places k end (p ∷ ps) h n = get_drop places k (start_after end p) h.0 ∙ ap (λ l. start_after end p ∷ l) (starts_here places (k + 1) (end_after end p) ps h.1 (omega (arith, n)))
+
+starts_held : (places : List ℕ) (k end : ℕ) (ps : List Part) → drop k places ≡ starts_from end ps → HasStarts places k end ps
+unfolding HasStarts starts_from
+starts_held places k end [] e = tt
+starts_held places k end (p ∷ ps) e = (first_get places k (start_after end p) (starts_from (end_after end p) ps) e, starts_held places (k + 1) (end_after end p) ps (drop_next places k (start_after end p) (starts_from (end_after end p) ps) e))
+
+pub places_stand : (places : List ℕ) (ps : List Part) → HasStarts places 0 64 ps → length places ≡ length ps → places ≡ places_of ps
+places_stand places ps h n = starts_here places 0 64 ps h (omega (arith, n)) ∙ sym (places_are ps)
+
+pub places_held : (places : List ℕ) (ps : List Part) → places ≡ places_of ps → HasStarts places 0 64 ps
+places_held places ps e = starts_held places 0 64 ps (e ∙ places_are ps)
+
+-- the last of the parts
+pub last_part : (r : Option ℕ) (places : List ℕ) (m y : ℕ) (ps part all : List Part) → StandBehind places 0 64 y ps → m ≡ 0 + length ps → all ≡ ps ++ part → EndsAt r places m y part → EndsAt r places 0 64 all
+last_part None places m y ps part all f e w r = stops places 0 m 64 y ps part [] all f e (w ∙ ap (λ l. ps ++ l) (sym (append-nil part))) r
+last_part (Some z) places m y ps part all f e w r = stand_more places 0 m 64 y z ps part all f r e w
+
+-- the parts up to the relocations, and those behind
+pub note_split : (note : Part) (cs rs ts all : List Part) → all ≡ cs ++ note ∷ rs ++ ts → all ≡ cs ++ note ∷ [] ++ (rs ++ ts)
+note_split note cs rs ts all w = w ∙ append_assoc cs (note ∷ rs) ts ∙ sym (append_assoc cs (note ∷ []) (rs ++ ts))
+
+pub over_length : (t : ElfTable) → 2 ^ 64 ≤ fold end_after 64 (parts_of t) → 2 ^ 64 ≤ file_length t
+unfolding end_of_parts
+over_length t h = omega (arith, h)
+
+length_is : (places : List ℕ) (end count : ℕ) (t : ElfTable) → StandBehind places 0 64 end (parts_of t) → count ≡ length (parts_of t) → next_multiple_of end 8 + 64 * (count + 1) ≡ file_length t
+unfolding end_of_parts
+length_is places end count t f n = ap (λ m. next_multiple_of end 8 + 64 * (m + 1)) n ∙ ap (λ m. next_multiple_of m 8 + 64 * (length (parts_of t) + 1)) f.end
+
+-- the length that is counted is that of the file
+pub length_found : (r : Option ℕ) (places : List ℕ) (end count : ℕ) (t : ElfTable) → StandBehind places 0 64 end (parts_of t) → count ≡ length places → length places ≡ length (parts_of t)
+    → MatchOption r (2 ^ 64 ≤ next_multiple_of end 8 + 64 * (count + 1)) (λ l. l ≡ next_multiple_of end 8 + 64 * (count + 1)) → MatchOption r (places ≡ places_of (parts_of t) → 2 ^ 64 ≤ file_length t) (λ l. HasPlaces places l t)
+length_found None places end count t f c n m = λ e. let same = length_is places end count t f (c ∙ n) in omega (arith, m, same)
+length_found (Some l) places end count t f c n m = record { starts = places_stand places (parts_of t) f.starts n; end = m ∙ length_is places end count t f (c ∙ n) }

@@ -1,17 +1,17 @@
 -- The numbers of a plan.
-use Rattle.std.proofs.Common.{◌≡◌, ℕ, zero, suc, ◌+◌, ◌*◌, List, [], ◌∷◌, ◌++◌, length, take, drop, map, get_or, refl, ap, sym, ◌∙◌, arith, Some, slice_get}
+use Rattle.std.proofs.Common.{◌≡◌, ℕ, zero, suc, ◌+◌, ◌*◌, ◌<◌, ◌⊎◌, inl, inr, List, [], ◌∷◌, ◌++◌, length, take, drop, map, get_or, refl, ap, sym, ◌∙◌, arith, Some, slice_get}
 use Rattle.std.specs.Prelude.{slice_index, fold}
 use Rattle.std.specs.List.{enumerate_from}
 use Rattle.std.specs.Int.{next_multiple_of}
 use Rattle.std.proofs.lemmas.List.{length-map, ext_get_or}
 use Rattle.std.proofs.lemmas.List.Sums.{fold-append}
 use Rattle.std.proofs.lemmas.List.FromFn.{length-enumerate_from}
-use Rattle.std.proofs.lemmas.Option.{get_or_from_slice_get}
-use Rattle.byte_core.proofs.Lists.{get_map, get_within, get_exists}
+use Rattle.std.proofs.lemmas.Option.{get_or_from_slice_get, slice_get-get_or}
+use Rattle.byte_core.proofs.Lists.{get_map, get_within, get_exists, below_or_here}
 use Rattle.object_core.specs.declared.symbol.Symbol.{Symbol}
 use Rattle.object_core.specs.Object.{ObjectData}
 use Rattle.object_core.specs.ElfRows.{elf_table_of, row_in}
-use Rattle.object_elf.specs.Layout.{Part, parts_of, start_after, end_after, end_of_parts, start_of, file_length}
+use Rattle.object_elf.specs.Layout.{Part, parts_of, start_after, end_after, end_of_parts, file_length}
 use Rattle.object_elf.specs.Writing.{AreRowsOf}
 use Rattle.object_elf.specs.PartView.{starts_from, PushesPlaces}
 use Rattle.object_elf.specs.Plan.{PlanData, plan_of, row_of, rows_of, place_of, places_of}
@@ -29,6 +29,11 @@ plan_places p o e = ap (λ (x : PlanData). x.places) e
 pub plan_length : (p : PlanData) (o : ObjectData) → p ≡ plan_of o → p.length ≡ file_length (elf_table_of o)
 unfolding plan_of
 plan_length p o e = ap (λ (x : PlanData). x.length) e
+
+-- a plan with these members
+pub plan_is : (p : PlanData) (o : ObjectData) → p.rows ≡ rows_of o.symbols → p.places ≡ places_of (parts_of (elf_table_of o)) → p.length ≡ file_length (elf_table_of o) → p ≡ plan_of o
+unfolding plan_of
+plan_is p o r s l = ap (λ x. record { rows = x; places = p.places; length = p.length }) r ∙ ap (λ x. record { rows = rows_of o.symbols; places = x; length = p.length }) s ∙ ap (λ x. record { rows = rows_of o.symbols; places = places_of (parts_of (elf_table_of o)); length = x }) l
 
 -- ---- numbered elements
 
@@ -51,6 +56,12 @@ take_next [] zero x rest e = absurd (cc)
 take_next [] (suc k) x rest e = absurd (cc)
 take_next (y ∷ xs) zero x rest e = let same : y ≡ x = cc in rw same refl
 take_next (y ∷ xs) (suc k) x rest e = let n : suc k + 1 ≡ suc (k + 1) = omega arith in rw n (ap (λ l. y ∷ l) (take_next xs k x rest e))
+
+pub first_get : {X : Type 0} (xs : List X) (k : ℕ) (x : X) (rest : List X) → drop k xs ≡ x ∷ rest → slice_get xs k ≡ Some x
+first_get [] zero x rest e = absurd (cc)
+first_get [] (suc k) x rest e = absurd (cc)
+first_get (y ∷ xs) zero x rest e = let same : y ≡ x = cc in rw same refl
+first_get (y ∷ xs) (suc k) x rest e = first_get xs k x rest e
 
 pub index_first : (xs : List ℕ) (k x : ℕ) (rest : List ℕ) → drop k xs ≡ x ∷ rest → slice_index xs k ≡ x
 index_first [] zero x rest e = absurd (cc)
@@ -109,3 +120,17 @@ unfolding plan_of end_of_parts
 counted o rows places old end size n a e p s =
     let length_is : size ≡ file_length (elf_table_of o) = s ∙ ap (λ m. next_multiple_of end 8 + 64 * (m + 1)) (counted_places o places old end e p) ∙ ap (λ m. next_multiple_of m 8 + 64 * (length (parts_of (elf_table_of o)) + 1)) p.end in
     rw (rows_are rows o.symbols n a, pushed_places places old end (parts_of (elf_table_of o)) e p, length_is) refl
+
+-- ---- rows that are compared
+
+-- rows that are kept are read as those of the symbols
+pub row_kept : (rows : List ℕ) (ss : List Symbol) (k : ℕ) (s : Symbol) → slice_get ss k ≡ Some s → rows ≡ rows_of ss → get_or rows k 0 ≡ row_in ss k
+row_kept rows ss k s g e = ap (λ l. get_or l k 0) e ∙ get_or_from_slice_get (rows_of ss) k (row_in ss k) 0 (row_is ss k s g)
+
+kept_to : (rows : List ℕ) (ss : List Symbol) (i k : ℕ) → ((j : ℕ) → j < i → slice_get rows j ≡ Some (row_in ss j)) → slice_get rows i ≡ Some (row_in ss i) → (k < i) ⊎ (i ≡ k) → slice_get rows k ≡ Some (row_in ss k)
+kept_to rows ss i k before here (inl h) = before k h
+kept_to rows ss i k before here (inr same) = rw (← same) here
+
+-- one more row is right
+pub kept_more : (rows : List ℕ) (ss : List Symbol) (i : ℕ) → i < length rows → ((j : ℕ) → j < i → slice_get rows j ≡ Some (row_in ss j)) → get_or rows i 0 ≡ row_in ss i → (k : ℕ) → k < i + 1 → slice_get rows k ≡ Some (row_in ss k)
+kept_more rows ss i room before here k h = kept_to rows ss i k before (slice_get-get_or rows i 0 room ∙ ap (λ r. Some r) here) (below_or_here k i h)

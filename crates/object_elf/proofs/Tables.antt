@@ -8,11 +8,11 @@ use Rattle.object_core.specs.declared.symbol.Symbol.{Symbol}
 use Rattle.object_core.specs.Object.{SectionData, ObjectData, is_local, is_global}
 use Rattle.object_core.specs.ElfRows.{elf_symbol, elf_section, elf_relocation, elf_table_of}
 use Rattle.object_core.specs.LinkTable.{ElfTable, ElfTableSection, ElfTableSymbol}
-use Rattle.object_elf.specs.Layout.{is_relocated, symbol_table_row, strings_size, section_names, symbol_names, content_part, note_part, relocation_part, relocation_name, symbol_part, string_part, parts_of}
+use Rattle.object_elf.specs.Layout.{is_relocated, symbol_table_row, strings_size, section_names, symbol_names, content_part, note_part, relocation_part, relocation_name, symbol_part, symbol_part_with, string_part, parts_of}
 use Rattle.object_elf.specs.Counts.{elf_counts}
 use Rattle.object_elf.specs.Writing as rows
 use Rattle.object_elf.specs.Writing.{has_relocations, chosen}
-use Rattle.object_elf.specs.PartView.{symbol_part_of, content_part_of, relocation_part_of, relocation_parts_from, has_records}
+use Rattle.object_elf.specs.PartView.{content_part_of, relocation_part_of, relocation_parts_from, has_records}
 use Rattle.object_elf.specs.PlainCounts.{plain_counts, symbol_name_size, section_name_size}
 use Rattle.object_elf.proofs.PartCases.{front_count, length-parts_of}
 use Rattle.object_elf.proofs.RowNumbers.{local_and_global}
@@ -206,7 +206,7 @@ parts_are o link e =
     rw (content_parts_are o.symbols o.sections, relocation_parts_are (elf_table_of o) link 1 o.symbols o.sections e) refl
 
 -- the part of the symbol table, by the numbers of the object
-pub symbol_part_is : (o : ObjectData) (row : ℕ) → symbol_table_row (elf_table_of o) ≡ row → symbol_part (elf_table_of o) ≡ symbol_part_of (length o.symbols) (1 + count_by is_local o.symbols) row
+pub symbol_part_is : (o : ObjectData) (row : ℕ) → symbol_table_row (elf_table_of o) ≡ row → symbol_part (elf_table_of o) ≡ symbol_part_with row (length o.symbols) (1 + count_by is_local o.symbols)
 unfolding elf_table_of
 symbol_part_is o row e = rw (e, symbol_count_is o) refl
 

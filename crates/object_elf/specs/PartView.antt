@@ -1,12 +1,11 @@
--- What a contract sees of the parts that the writer lists.
-use Rattle.std.specs.Prelude.{◌≡◌, ℕ, ◌+◌, ◌*◌, ◌<◌, ◌≤◌, ◌^◌, Bool, List, [], ◌∷◌, ◌++◌, length, take, map, filter, flat_map, fold, sum_by, slice_index, codes}
+-- What a contract sees of the parts of an object's file, one after the other.
+use Rattle.std.specs.Prelude.{◌≡◌, ℕ, ◌+◌, ◌*◌, ◌<◌, ◌≤◌, ◌^◌, Bool, List, [], ◌∷◌, ◌++◌, length, take, map, filter, flat_map, fold, sum_by, slice_get, slice_index, Some, Option, MatchOption}
 use Rattle.std.specs.List.{enumerate_from}
 use Rattle.object_core.specs.Object.{SectionData}
-use Rattle.object_core.specs.LinkTable.{ElfTable}
 use Rattle.image_read.specs.ElfFile.{ElfSectionRow}
 use Rattle.object_elf.specs.declared.layout.PartHeader.{PartHeader}
 use Rattle.object_elf.specs.declared.next_row.NextRow.{NextRow}
-use Rattle.object_elf.specs.Layout.{Part, content_part, symbol_part, string_part, strings_size, symbol_names, section_names, start_after, end_after}
+use Rattle.object_elf.specs.Layout.{Part, content_part, relocation_part_with, start_after, end_after}
 use Rattle.object_elf.specs.File.{section_row_bytes, section_row_with}
 use Rattle.object_elf.specs.Writing.{plain_section, has_relocations}
 
@@ -19,7 +18,7 @@ content_part_of s = content_part (plain_section s)
 
 -- the part of the relocations of a section with this header row, over the symbol table in this row
 abbrev pub relocation_part_of : ℕ → ℕ × SectionData → Part
-relocation_part_of link s = record { name = codes ".rela" ++ s.1.name; sh_type = 4; flags = 0x40; size = 24 * length s.1.relocations; link = link; info = s.0; align = 8; entsize = 24 }
+relocation_part_of link s = relocation_part_with link s.0 s.1.name (length s.1.relocations)
 
 abbrev pub has_records : ℕ × SectionData → Bool
 has_records s = has_relocations s.1
@@ -35,14 +34,6 @@ part_name_size p = length p.name + 1
 abbrev pub part_name : Part → List ℕ
 part_name p = p.name
 
--- the part of a symbol table in this row, of so many symbols and local rows
-abbrev pub symbol_part_of : ℕ → ℕ → ℕ → Part
-symbol_part_of symbols locals row = record { name = codes ".symtab"; sh_type = 2; flags = 0; size = 24 * (symbols + 1); link = row + 1; info = locals; align = 8; entsize = 24 }
-
--- the tables of a file: the symbols, their names and the names of the sections
-abbrev pub table_parts : ElfTable → List Part
-table_parts t = symbol_part t ∷ string_part (codes ".strtab") (strings_size (symbol_names t)) ∷ string_part (codes ".shstrtab") (strings_size (section_names t)) ∷ []
-
 -- -- places of parts one after the other
 
 -- where parts start behind a part that ends here
@@ -54,6 +45,20 @@ starts_from end (p ∷ ps) = start_after end p ∷ starts_from (end_after end p)
 pub record PushesPlaces (old new : List ℕ) (from to : ℕ) (parts : List Part) : Type 0 where
   pub places : new ≡ old ++ starts_from from parts
   pub end : to ≡ fold end_after from parts
+
+-- parts behind a part that ends here start at the places from this number on
+unfoldable pub HasStarts : List ℕ → ℕ → ℕ → List Part → Type 0
+HasStarts places number end [] = Unit {0}
+HasStarts places number end (p ∷ ps) = (slice_get places number ≡ Some (start_after end p)) × HasStarts places (number + 1) (end_after end p) ps
+
+-- they do, and they end here
+pub record StandBehind (places : List ℕ) (number from to : ℕ) (parts : List Part) : Type 0 where
+  pub starts : HasStarts places number from parts
+  pub end : to ≡ fold end_after from parts
+
+-- an answer that tells where they end; none where they don't start there, or end past the numbers of 64 bits
+abbrev pub EndsAt : Option ℕ → List ℕ → ℕ → ℕ → List Part → Type 0
+EndsAt answer places number end parts = MatchOption answer (HasStarts places number end parts → 2 ^ 64 ≤ fold end_after end parts) (λ to. StandBehind places number end to parts)
 
 -- -- headers of parts one after the other
 

@@ -2,6 +2,7 @@
 use Rattle.std.specs.Prelude.{◌≡◌, ℕ, List, map}
 use Rattle.std.specs.List.{enumerate_from}
 use Rattle.object_core.specs.declared.symbol.Symbol.{Symbol}
+use Rattle.object_core.specs.LinkTable.{ElfTable}
 use Rattle.object_core.specs.Object.{ObjectData}
 use Rattle.object_core.specs.ElfRows.{elf_table_of, row_in}
 use Rattle.object_elf.specs.Counts.{elf_counts}
@@ -36,3 +37,8 @@ plan_of o = record { rows = rows_of o.symbols; places = places_of (parts_of (elf
 pub record IsPlanOf (plan : PlanData) (o : ObjectData) : Type 0 where
   pub limits : IsWithinLimits (elf_counts (elf_table_of o) o.content_sum)
   pub numbers : plan ≡ plan_of o
+
+-- the parts of a table start at these places, and its file has this length
+pub record HasPlaces (places : List ℕ) (length : ℕ) (t : ElfTable) : Type 0 where
+  pub starts : places ≡ places_of (parts_of t)
+  pub end : length ≡ file_length t

@@ -1,6 +1,6 @@
 //! The file of an object.
 
-ghost use Rattle.std.specs.Prelude.{◌≡◌, ◌+◌, ◌*◌, ◌<◌, ◌≤◌, ◌^◌, IfOk, length};
+ghost use Rattle.std.specs.Prelude.{◌≡◌, IfOk, length};
 ghost use Rattle.ir_core.specs.declared.target.BinaryFormat.TheVariants.{Elf};
 ghost use Rattle.object_core.specs.ElfRows.{elf_table_of};
 ghost use Rattle.object_core.specs.WellFormed.{IsFormedElf};

@@ -3,11 +3,11 @@
 ghost use Rattle.std.specs.Prelude.{◌≡◌, ◌+◌, ◌*◌, ◌≤◌, ◌<◌, ◌^◌, MatchOption, map, length, count_by};
 ghost use Rattle.object_core.specs.ElfRows.{elf_table_of, elf_section_type, elf_section_flags, retain_flag};
 ghost use Rattle.object_core.specs.Object.{SectionData, is_local};
-ghost use Rattle.object_elf.specs.Layout.{end_after, start_after, note_part, string_part, symbol_table_row};
+ghost use Rattle.object_elf.specs.Layout.{end_after, start_after, note_part, string_part, symbol_part_with, symbol_table_row, table_parts};
 ghost use Rattle.object_elf.specs.PlainCounts.{plain_counts};
 ghost use Rattle.object_elf.specs.Limits.{IsWithinLimits};
 ghost use Rattle.object_elf.specs.Writing.{has_relocations};
-ghost use Rattle.object_elf.specs.PartView.{part_view, table_parts, symbol_part_of, content_part_of, relocation_part_of};
+ghost use Rattle.object_elf.specs.PartView.{part_view, content_part_of, relocation_part_of};
 
 use crate::limits::{relocated_count, section_names_size, symbol_names_size};
 use crate::symbol_rows::local_count;
@@ -70,7 +70,7 @@ pub(crate) fn table_parts(object: &Object, table: u32) -> [PartHeader<'static>; 
 fn symbol_part(symbols: &[Symbol], table: u32) -> PartHeader<'static>
     requires symbols { length symbols.now + 1 < 2 ^ 32 }
     requires table { table + 1 < 2 ^ 32 }
-    ensures { part_view result ≡ symbol_part_of (length symbols.now) (1 + count_by is_local symbols.now) table }
+    ensures { part_view result ≡ symbol_part_with table (length symbols.now) (1 + count_by is_local symbols.now) }
 {
     PartHeader {
         prefix: b"",

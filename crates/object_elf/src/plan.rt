@@ -1,23 +1,24 @@
 //! The places of an object's ELF64 file, which are counted before the file is written.
 
-ghost use Rattle.std.specs.Prelude.{◌≡◌, ℕ, ◌+◌, ◌*◌, ◌<◌, ◌≤◌, ◌^◌, ◌++◌, true, IfOk, OnOk, MatchOption, map, length, fold};
+ghost use Rattle.std.specs.Prelude.{◌≡◌, ◌+◌, ◌*◌, ◌<◌, ◌≤◌, ◌^◌, ◌↔◌, true, IfOk, MatchOption, map, length};
 ghost use Rattle.std.specs.Int.{next_multiple_of};
 ghost use Rattle.ir_core.specs.declared.target.BinaryFormat.TheVariants.{Elf};
 ghost use Rattle.object_core.specs.ElfRows.{elf_table_of};
 ghost use Rattle.object_core.specs.WellFormed.{IsFormedElf};
 ghost use Rattle.object_elf.specs.Counts.{elf_counts};
-ghost use Rattle.object_elf.specs.Layout.{end_after, end_of_parts, parts_of, file_length};
+ghost use Rattle.object_elf.specs.Layout.{parts_of};
 ghost use Rattle.object_elf.specs.Limits.{IsJudged, IsWithinLimits};
 ghost use Rattle.object_elf.specs.PartView.{part_view, content_part_of, relocation_parts_from, PushesPlaces};
 ghost use Rattle.object_elf.specs.PlainCounts.{plain_counts};
-ghost use Rattle.object_elf.specs.Plan.{IsPlanOf, plan_of, places_of, rows_of};
+ghost use Rattle.object_elf.specs.Plan.{IsPlanOf, plan_of};
 
 use crate::layout::{
-    PartHeader, content_part, end_behind, relocation_part, row_of_symbol_table,
-    stack_note, start_behind, table_parts,
+    PartHeader, content_part, end_behind, relocation_part, row_of_symbol_table, stack_note,
+    start_behind, table_parts,
 };
 use crate::limits::check_limits;
 use crate::object_names::section_name;
+use crate::plan_check::{has_rows, length_at};
 use crate::relocation_rows::rows_of_symbols;
 use byte_core::align_up;
 use object_core::{EmitError, Object, Section};
@@ -71,7 +72,7 @@ fn counted_plan(alloc: Global, object: &Object) -> Result<ElfPlan, AllocError>
 }
 
 /// The length of a file whose parts end here, with a null header and so many more. None past the numbers of 64 bits.
-fn file_length(end: u64, count: u64) -> Option<u64>
+pub(crate) fn file_length(end: u64, count: u64) -> Option<u64>
     requires { count < 65280 }
     ensures { MatchOption result (2 ^ 64 ≤ next_multiple_of end 8 + 64 * (count + 1)) (λ length. length ≡ next_multiple_of end 8 + 64 * (count + 1)) }
 {
@@ -93,11 +94,7 @@ fn push_all_places(places: &mut Vec<u64>, object: &Object) -> Result<u64, AllocE
 }
 
 /// Appends where the sections of the object start.
-fn push_content_places(
-    places: &mut Vec<u64>,
-    end: u64,
-    object: &Object,
-) -> Result<u64, AllocError>
+fn push_content_places(places: &mut Vec<u64>, end: u64, object: &Object) -> Result<u64, AllocError>
     requires { (object.now).content_sum < 2 ^ 63 }
     ensures { IfOk result (λ next. PushesPlaces places.old.items places.new.items end next (map content_part_of (object.now).sections)) }
 {
@@ -134,7 +131,7 @@ fn push_relocation_places(
 }
 
 /// How many bytes the relocations of a section take. None past the numbers of 64 bits.
-fn records_size(section: &Section) -> Option<u64>
+pub(crate) fn records_size(section: &Section) -> Option<u64>
     ensures { MatchOption result (2 ^ 64 ≤ 24 * length (section.now).relocations) (λ size. size ≡ 24 * length (section.now).relocations) }
 {
     (section.relocations().len() as u64).checked_mul(24)
@@ -142,11 +139,7 @@ fn records_size(section: &Section) -> Option<u64>
 
 /// Appends where parts start behind one that ends here, and answers where they end. A place past the numbers of 64 bits
 /// is want of memory.
-fn push_places(
-    places: &mut Vec<u64>,
-    end: u64,
-    parts: &[PartHeader<'_>],
-) -> Result<u64, AllocError>
+fn push_places(places: &mut Vec<u64>, end: u64, parts: &[PartHeader<'_>]) -> Result<u64, AllocError>
     ensures { IfOk result (λ next. PushesPlaces places.old.items places.new.items end next (map part_view parts.now)) }
 {
     let mut next = end;
@@ -164,6 +157,24 @@ impl ElfPlan {
         ensures { result ≡ (self.now).length }
     {
         self.length
+    }
+
+    /// The plan is the object's own: the object reaches no limit, and the numbers that are kept are its numbers. It takes
+    /// no memory.
+    pub fn fits(&self, object: &Object) -> bool
+        ensures { (result ≡ true) ↔ IsPlanOf self.now object.now }
+    {
+        if check_limits(object).is_err() {
+            return false;
+        }
+        if !has_rows(self.rows(), object.symbols()) {
+            return false;
+        }
+        let length = self.len();
+        match length_at(self.places(), object) {
+            Some(found) => found == length,
+            None => false,
+        }
     }
 
     /// The row of each symbol.

@@ -1,9 +1,8 @@
 //! Section headers: System V gABI, "Sections".
 
-ghost use Rattle.std.specs.Prelude.{◌≡◌, ℕ, ◌+◌, ◌*◌, ◌<◌, ◌≤◌, ◌^◌, ◌++◌, Some, take, map, length, slice_get, flat_map};
+ghost use Rattle.std.specs.Prelude.{◌≡◌, ◌+◌, ◌*◌, ◌<◌, ◌≤◌, ◌^◌, ◌++◌, take, map, length, flat_map};
 ghost use Rattle.object_core.specs.ElfRows.{elf_table_of};
-ghost use Rattle.object_core.specs.Object.{SectionData};
-ghost use Rattle.object_elf.specs.Layout.{parts_of, symbol_table_row};
+ghost use Rattle.object_elf.specs.Layout.{parts_of};
 ghost use Rattle.object_elf.specs.File.{section_row_bytes, section_row_with, section_rows};
 ghost use Rattle.object_elf.specs.Limits.{IsWithinLimits};
 ghost use Rattle.object_elf.specs.PartView.{part_view, part_name_size, content_part_of, relocation_parts_from, PlacesRows, HasRoom};
@@ -14,8 +13,8 @@ ghost use Rattle.object_elf.specs.Writing.{RecordsFit};
 use crate::layout::{
     PartHeader, content_part, relocation_part, row_of_symbol_table, stack_note, table_parts,
 };
-use crate::object_names::section_name;
 use crate::next_row::NextRow;
+use crate::object_names::section_name;
 use byte_core::{Field, place_fields};
 use object_core::Object;
 
@@ -61,12 +60,7 @@ pub(crate) fn place_section_rows(
 }
 
 /// Writes the headers of the sections of the object.
-fn place_content_rows(
-    out: &mut [u8],
-    next: NextRow,
-    object: &Object,
-    places: &[u64],
-) -> NextRow
+fn place_content_rows(out: &mut [u8], next: NextRow, object: &Object, places: &[u64]) -> NextRow
     requires contents { (object.now).content_sum < 2 ^ 63 }
     requires room { HasRoom places.now 0 out.old next (map content_part_of (object.now).sections) }
     ensures { PlacesRows places.now 0 out.old out.new next result (map content_part_of (object.now).sections) }

@@ -6,8 +6,8 @@ ghost use Rattle.object_core.specs.ElfRows.{elf_binding, elf_symbol_type, elf_ot
 ghost use Rattle.object_elf.specs.File.{symbol_row_with, symbol_row_bytes, symbol_rows_from};
 ghost use Rattle.object_elf.specs.Writing.{is_chosen, chosen, names_size, FitsRow, FitRows, FitSizes};
 
-use crate::object_names::symbol_name;
 use crate::next_row::NextRow;
+use crate::object_names::symbol_name;
 use byte_core::{Field, place_fields};
 use object_core::{Object, Symbol, SymbolKind, SymbolScope, SymbolSection};
 

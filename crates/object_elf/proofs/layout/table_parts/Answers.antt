@@ -1,9 +1,5 @@
-use Rattle.std.proofs.Common.{◌≡◌, ap, sym, ◌∙◌, arith, codes, refl}
-use Rattle.std.specs.Prelude.{count_by}
-use Rattle.object_core.specs.Object.{is_local}
-use Rattle.object_core.specs.ElfRows.{elf_table_of}
+use Rattle.std.proofs.Common.{ap, sym, ◌∙◌, arith, codes, refl}
 use Rattle.object_elf.specs.Layout.{string_part}
-use Rattle.object_elf.specs.PartView.{symbol_part_of}
 use Rattle.object_elf.proofs.Tables.{table_row_is, symbol_names_size_is, section_names_size_is, symbol_part_is}
 use Rattle.object_elf.proofs.layout.table_parts.Goals as goal
 

@@ -1,4 +1,4 @@
-use Rattle.std.proofs.Common.{ap, sym, ◌∙◌, length}
+use Rattle.std.proofs.Common.{ap, length}
 use Rattle.byte_core.proofs.Lists.{item_get}
 use Rattle.object_elf.proofs.SectionLoops.{has_none, has_some}
 use Rattle.object_elf.proofs.PartLoops.{from_next, from_passed, pushes_none, pushes_more, place_is}

@@ -1,6 +1,6 @@
-use Rattle.std.proofs.Common.{◌≡◌, ◌<◌, ◌+◌, ◌*◌, ◌^◌, arith, ap, sym, ◌∙◌, length, take, ◌++◌, refl, length-take-le, true}
+use Rattle.std.proofs.Common.{◌≡◌, ◌<◌, ◌+◌, ◌*◌, ◌^◌, arith, ap, sym, ◌∙◌, length, take, ◌++◌, refl, length-take-le}
 use Rattle.object_core.specs.Object.{SectionData}
-use Rattle.object_elf.specs.Writing.{FitRecords, record_bytes_by, has_relocations}
+use Rattle.object_elf.specs.Writing.{FitRecords, record_bytes_by}
 use Rattle.byte_core.specs.LaidOut.{end_of_aligned}
 use Rattle.byte_core.proofs.LaidOut.{lays_none, laid_next, lays_as}
 use Rattle.byte_core.proofs.Lists.{item_get, each_more, each_all}

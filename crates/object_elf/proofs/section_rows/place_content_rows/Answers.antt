@@ -1,7 +1,5 @@
 use Rattle.std.proofs.Common.{◌≡◌, ◌+◌, arith, length, map, take}
-use Rattle.std.specs.Prelude.{sum_by}
-use Rattle.byte_core.proofs.Lists.{item_get, one_of_sum}
-use Rattle.object_core.specs.Object.{SectionData}
+use Rattle.byte_core.proofs.Lists.{item_get}
 use Rattle.object_elf.specs.PartView.{content_part_of}
 use Rattle.object_elf.proofs.PartLoops.{length-map_take, map_next, map_split, rows_none, rows_more, room_next}
 use Rattle.object_elf.proofs.section_rows.place_content_rows.Goals as goal

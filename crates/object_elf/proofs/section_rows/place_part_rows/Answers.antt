@@ -1,4 +1,4 @@
-use Rattle.std.proofs.Common.{◌≡◌, ◌+◌, [], ◌∷◌, arith, length, map, take, get_or, refl}
+use Rattle.std.proofs.Common.{◌≡◌, ◌+◌, [], arith, length, map, take, get_or, refl}
 use Rattle.object_elf.specs.declared.layout.PartHeader.{PartHeader}
 use Rattle.object_elf.specs.PartView.{part_view}
 use Rattle.object_elf.proofs.PartLoops.{length-map_take, view_next, view_split, rows_none, rows_one, rows_more, room_next}

@@ -1,4 +1,4 @@
-use Rattle.std.proofs.Common.{◌≡◌, arith, ap, sym, ◌∙◌, length, map, Some, true, slice_get, ◌++◌, codes}
+use Rattle.std.proofs.Common.{arith, ap, sym, ◌∙◌, length, map, ◌++◌, codes}
 use Rattle.byte_core.proofs.Lists.{item_get}
 use Rattle.object_elf.specs.Writing.{record_name}
 use Rattle.object_elf.proofs.NameLoops.{name_more, relocated_left, record_size_next}
