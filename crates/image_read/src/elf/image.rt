@@ -84,6 +84,7 @@ impl<'a> ElfSection<'a> {
         append_records(&mut self.relocations, file, j)
     }
 
+    /// Its name, which another section may have too.
     pub fn name(&self) -> &'a [u8]
         ensures { result.now ≡ (self.now).name }
     {
