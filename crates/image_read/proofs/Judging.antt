@@ -19,7 +19,8 @@ text_of b k s p q h same =
 pub strings_inside : (b : List ℕ) (k : ℕ) → EachRow (IsSection b) 1 (header_of b).shnum → IsStrings b k → HasStrings b k
 strings_inside b k each h = record { section = h; inside = (each.at k h.behind_null h.row).inside (rw h.kind refl) }
 
-pub section_from : (b : List ℕ) (k : ℕ) (row : SectionRow) (s : List ℕ) → SameSection row (section_row b k) → HoldsStrings b (header_of b).shstrndx s → IsPlaced row (length b) → row.sh_type ≢ 9
+pub section_from : (b : List ℕ) (k : ℕ) (row : SectionRow) (s : List ℕ) → SameSection row (section_row b k) → HoldsStrings b (header_of b).shstrndx s
+    → IsPlaced row (length b) → row.sh_type ≢ 9
     → IsSome (text_at s row.name (length s)) → IsSection b k
 section_from b k row s same names placed kind named =
     record {
@@ -28,7 +29,8 @@ section_from b k row s same names placed kind named =
       kind = λ rel. kind (same.sh_type ∙ rel);
     }
 
-pub name_of_section : (b : List ℕ) (k : ℕ) (row : SectionRow) (s : List ℕ) → SameSection row (section_row b k) → HoldsStrings b (header_of b).shstrndx s → IsSection b k
+pub name_of_section : (b : List ℕ) (k : ℕ) (row : SectionRow) (s : List ℕ) → SameSection row (section_row b k)
+    → HoldsStrings b (header_of b).shstrndx s → IsSection b k
     → IsSome (text_at s row.name (length s))
 name_of_section b k row s same names h = rw (text_of b (header_of b).shstrndx s row.name (section_row b k).name names same.name) h.name
 
@@ -37,7 +39,8 @@ placed_section b k row same h = record { inside = λ has. omega (arith, h.inside
 
 -- -- symbols
 
-pub symbol_place : (b : List ℕ) (t : SymbolTable) (m : ℕ) (row : SymbolRow) → IsOpen b t → SameSymbol row (symbol_row_at b (t.row.offset + 24 * m)) → SameSymbol row (symbol_row b t.number m)
+pub symbol_place : (b : List ℕ) (t : SymbolTable) (m : ℕ) (row : SymbolRow) → IsOpen b t → SameSymbol row (symbol_row_at b (t.row.offset + 24 * m))
+    → SameSymbol row (symbol_row b t.number m)
 symbol_place b t m row opened same = subst (λ p. SameSymbol row (symbol_row_at b (p + 24 * m))) opened.row.offset same
 
 pub name_of_symbol : (b : List ℕ) (t : SymbolTable) (m : ℕ) (row : SymbolRow) → IsOpen b t → SameSymbol row (symbol_row_at b (t.row.offset + 24 * m))
@@ -45,12 +48,14 @@ pub name_of_symbol : (b : List ℕ) (t : SymbolTable) (m : ℕ) (row : SymbolRow
 name_of_symbol b t m row opened same =
     text_of b (section_row b t.number).link t.strings.now row.name (symbol_row b t.number m).name opened.strings (symbol_place b t m row opened same).name
 
-pub symbol_from : (b : List ℕ) (t : SymbolTable) (m : ℕ) (row : SymbolRow) → IsOpen b t → SameSymbol row (symbol_row_at b (t.row.offset + 24 * m)) → IsSome (text_at t.strings.now row.name (length t.strings.now))
+pub symbol_from : (b : List ℕ) (t : SymbolTable) (m : ℕ) (row : SymbolRow) → IsOpen b t → SameSymbol row (symbol_row_at b (t.row.offset + 24 * m))
+    → IsSome (text_at t.strings.now row.name (length t.strings.now))
     → (row.shndx < (header_of b).shnum) ⊎ ((0xff00 ≤ row.shndx) × (row.shndx ≤ 0xfffe)) → IsSymbol b t.number m
 symbol_from b t m row opened same named place =
     record { name = rw (← name_of_symbol b t m row opened same) named; place = rw (← (symbol_place b t m row opened same).shndx) place }
 
-pub place_of_symbol : (b : List ℕ) (t : SymbolTable) (m : ℕ) (row : SymbolRow) → IsOpen b t → SameSymbol row (symbol_row_at b (t.row.offset + 24 * m)) → IsSymbol b t.number m
+pub place_of_symbol : (b : List ℕ) (t : SymbolTable) (m : ℕ) (row : SymbolRow) → IsOpen b t → SameSymbol row (symbol_row_at b (t.row.offset + 24 * m))
+    → IsSymbol b t.number m
     → (row.shndx < (header_of b).shnum) ⊎ ((0xff00 ≤ row.shndx) × (row.shndx ≤ 0xfffe))
 place_of_symbol b t m row opened same h = rw (symbol_place b t m row opened same).shndx h.place
 
@@ -58,7 +63,8 @@ pub rows_of_table : (b : List ℕ) (k : ℕ) → EachRow (IsSection b) 1 (header
 rows_of_table b k each h =
     record { entry = h.entry; whole = h.whole; some = h.some; few = h.few; locals = h.locals; strings = strings_inside b (section_row b k).link each h.strings }
 
-pub table_from : (b : List ℕ) (t : SymbolTable) → IsOpen b t → EachRow (IsTableOnlyAt b t.number) 1 (header_of b).shnum → EachRow (IsSymbol b t.number) 1 ((section_row b t.number).size / 24) → IsSymbolTable b t.number
+pub table_from : (b : List ℕ) (t : SymbolTable) → IsOpen b t → EachRow (IsTableOnlyAt b t.number) 1 (header_of b).shnum
+    → EachRow (IsSymbol b t.number) 1 ((section_row b t.number).size / 24) → IsSymbolTable b t.number
 table_from b t opened only symbols =
     record {
       only = λ j from below kind. (only.at j from below).only kind;

@@ -25,7 +25,8 @@ same_later f g a b zero less h = refl
 same_later f g a b (suc n) less h = rw (h b (λ e. absurd (omega (arith, e))), same_later f g a (b + 1) n (omega arith) h) refl
 
 -- a row that changes alone
-pub set_row : {Y : Type 0} (f g : ℕ → Y) (a n i j : ℕ) → i < n → a + i ≡ j → ((k : ℕ) → k ≢ j → f k ≡ g k) → set (map f (range_with_len a n)) i (g j) ≡ map g (range_with_len a n)
+pub set_row : {Y : Type 0} (f g : ℕ → Y) (a n i j : ℕ) → i < n → a + i ≡ j → ((k : ℕ) → k ≢ j → f k ≡ g k)
+    → set (map f (range_with_len a n)) i (g j) ≡ map g (range_with_len a n)
 set_row f g a zero i j h place others = absurd (omega arith)
 set_row f g a (suc n) zero j h place others =
     let same : a ≡ j = omega arith in

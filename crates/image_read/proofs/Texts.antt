@@ -54,5 +54,6 @@ text_within b o s p =
     let all = take (o + s - (o + p)) (drop (o + p) b) in
     let here = bytes_within b o s p in
     let first = position_from (λ x. x == 0) 0 all in
-    let bound : (n : ℕ) → first ≡ Some n → n ≤ o + s - (o + p) = λ n h. omega (arith, position_bound all 0 n h, length-take (o + s - (o + p)) (drop (o + p) b)) in
+    let bound : (n : ℕ) → first ≡ Some n → n ≤ o + s - (o + p) =
+    λ n h. omega (arith, position_bound all 0 n h, length-take (o + s - (o + p)) (drop (o + p) b)) in
     rw (take_rest (take s (drop o b)) p, here) (cut_text first (o + s - (o + p)) (drop (o + p) b) bound)

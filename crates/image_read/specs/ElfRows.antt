@@ -3,7 +3,7 @@ use Rattle.std.specs.Prelude.{◌≡◌, ◌≢◌, ℕ, ◌+◌, ◌-◌, ◌*�
 use Rattle.std.specs.List.{range_with_len}
 use Rattle.byte_core.specs.Number.{bytes_at}
 use Rattle.image_read.specs.ElfFile.{header_of, ElfSectionRow, ElfSymbolRow, ElfRelocationRow, section_row, relocation_row, entries, symbol_table}
-use Rattle.image_read.specs.ElfImage.{IsStrings, IsSymbolTable, IsRelocations, ElfSectionData, section_data, records_for}
+use Rattle.image_read.specs.ElfImage.{ElfImageData, ElfSymbolData, IsStrings, IsSymbolTable, IsRelocations, ElfSectionData, section_data, records_for}
 use Rattle.image_read.specs.declared.elf.rows.SectionRow.{SectionRow}
 use Rattle.image_read.specs.declared.elf.rows.SymbolRow.{SymbolRow}
 use Rattle.image_read.specs.declared.elf.symbols.SymbolTable.{SymbolTable}
@@ -141,4 +141,15 @@ bare_section row name contents =
       entsize = row.entsize;
       contents = contents;
       relocations = [];
+    }
+
+-- an image with the numbers of the file's header, and these rows
+abbrev pub image_with : List ℕ → List ElfSectionData → List ElfSymbolData → ℕ → ElfImageData
+image_with b sections symbols locals =
+    record {
+      machine = (header_of b).machine;
+      flags = (header_of b).flags;
+      sections = sections;
+      symbols = symbols;
+      local_symbols = locals;
     }

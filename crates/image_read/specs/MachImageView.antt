@@ -6,4 +6,11 @@ use Rattle.image_read.specs.declared.mach.MachImage.TheInside.{Inside}
 
 abbrev pub mach_image_view : Inside → MachImageData
 mach_image_view i =
-    record { cputype = i.cputype; cpusubtype = i.cpusubtype; flags = i.flags; build_version = i.build_version; sections = i.sections.items; symbols = map mach_symbol_of i.symbols.items }
+    record {
+      cputype = i.cputype;
+      cpusubtype = i.cpusubtype;
+      flags = i.flags;
+      build_version = i.build_version;
+      sections = i.sections.items;
+      symbols = map mach_symbol_of i.symbols.items;
+    }

@@ -56,12 +56,14 @@ impl<'a> Model for MachSection<'a> {
 }
 
 impl<'a> MachSection<'a> {
+    /// The name of its segment.
     pub fn segment(&self) -> &'a [u8]
         ensures { result.now ≡ (self.now).segment }
     {
         self.segment
     }
 
+    /// Its name in the segment.
     pub fn name(&self) -> &'a [u8]
         ensures { result.now ≡ (self.now).name }
     {

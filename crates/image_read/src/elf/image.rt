@@ -2,7 +2,7 @@
 
 ghost use Rattle.std.specs.Prelude.{◌≡◌, ◌+◌, ◌≤◌, ◌<◌, length, map, OnOk};
 ghost use Rattle.image_read.specs.ElfFile.{header_of, section_row};
-ghost use Rattle.image_read.specs.ElfRows.{records_of, with_records, bare_section};
+ghost use Rattle.image_read.specs.ElfRows.{records_of, with_records, bare_section, image_with};
 ghost use Rattle.image_read.specs.Views.{symbol_of, relocation_of};
 
 use crate::elf::file::ElfFile;
@@ -84,6 +84,7 @@ impl<'a> ElfSection<'a> {
         append_records(&mut self.relocations, file, j)
     }
 
+    /// Its name, which another section may have too.
     pub fn name(&self) -> &'a [u8]
         ensures { result.now ≡ (self.now).name }
     {
@@ -189,7 +190,7 @@ impl<'a> ElfImage<'a> {
         symbols: Vec<ElfSymbol<'a>>,
         local_symbols: u32,
     ) -> ElfImage<'a>
-        ensures { result ≡ record { machine = (header_of file.now).machine; flags = (header_of file.now).flags; sections = sections.entry.items; symbols = map symbol_of symbols.entry.items; local_symbols = local_symbols } }
+        ensures { result ≡ image_with file.now sections.entry.items (map symbol_of symbols.entry.items) local_symbols }
     {
         ElfImage {
             machine: file.machine(),
