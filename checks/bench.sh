@@ -1,8 +1,8 @@
 #!/bin/sh
 # Counts what large objects cost: for each number n of the arguments (2000 and 20000 where there are none) a part of n
 # functions and n data objects, each with a relocation to the other, is built and its file read. It tells instructions a
-# symbol by valgrind's callgrind, of the whole run and of the functions that make the object (`finish`), count its places
-# (`elf_plan`) and write its file (`fill_elf`, `emit_elf`) with all that they call; the greatest memory and the seconds of a
+# symbol by valgrind's callgrind, of the whole run and of each function that makes the object, writes its file or reads one and
+# isn't joined to its caller, with all that it calls, where these are ten or more; the greatest memory and the seconds of a
 # run; and for reading the same beside `readelf -aW`. PROGRAM names another program than the repository's own. Run by hand;
 # it is skipped where the program isn't built, and the counts where valgrind is missing. It judges nothing.
 set -eu
@@ -33,12 +33,11 @@ counted() {
     command -v valgrind >/dev/null 2>&1 || { echo "  valgrind is missing"; return; }
     valgrind --tool=callgrind --callgrind-out-file="$room/counts" "$program" "$2" < "$room/$2" > "$room/out" 2> /dev/null
     callgrind_annotate --inclusive=yes --threshold=100 "$room/counts" 2> /dev/null | awk -v symbols="$1" '
-        /PROGRAM TOTALS/ { gsub(",", "", $1); printf "  instructions a symbol: %d whole", $1 / symbols }
-        match($0, /(finish|emit_elf|elf_plan|fill_elf|read_image|image_text)[^A-Za-z_]/) {
-            word = substr($0, RSTART, RLENGTH - 1); gsub(",", "", $1)
-            if (!(word in seen)) { seen[word] = 1; printf ", %s %d", word, $1 / symbols }
-        }
-        END { print "" }'
+        /PROGRAM TOTALS/ { gsub(",", "", $1); printf "  instructions a symbol: %d in all\n", $1 / symbols }
+        match($0, /(object_core|object_elf|cranelift_object|image_build|image_read|image_json)::[A-Za-z_:]+/) {
+            word = substr($0, RSTART, RLENGTH); gsub(",", "", $1)
+            if (!(word in seen) && $1 / symbols >= 10) { seen[word] = 1; printf "    %6d %s\n", $1 / symbols, word }
+        }'
 }
 timed() {
     what=$1
