@@ -82,7 +82,7 @@ table_names ss old zero locals all z l a =
 -- ---- the whole file
 
 -- what stands between the file header and the names of the sections
-abbrev pub table_body : ElfTable → List Aligned
+abbrev table_body : ElfTable → List Aligned
 table_body t = map section_contents t.sections ++ map relocation_contents (filter is_relocated t.sections) ++ symbol_contents t.symbols ∷ string_contents (symbol_names t) ∷ []
 
 lays_as_new : (old new same : List ℕ) (cs : List Aligned) → same ≡ new → LaysOut old new cs → LaysOut old same cs
@@ -109,7 +109,7 @@ skip_note t h body s =
     lays_more h m2 (body ++ string_bytes_of (section_names t)) (cs ++ record { align = 1; bytes = [] } ∷ rs) (symbol_contents t.symbols ∷ string_contents (symbol_names t) ∷ string_contents (section_names t) ∷ []) front
     (lays_more m2 m3 (body ++ string_bytes_of (section_names t)) ts (string_contents (section_names t) ∷ []) third names)
 
-pub file_is : (t : ElfTable) → FitsElf t → (h body named padded file : List ℕ) → h ≡ header_bytes (header_for t) → LaysOut h body (table_body t) → named ≡ body ++ string_bytes_of (section_names t)
+file_is : (t : ElfTable) → FitsElf t → (h body named padded file : List ℕ) → h ≡ header_bytes (header_for t) → LaysOut h body (table_body t) → named ≡ body ++ string_bytes_of (section_names t)
     → padded ≡ named ++ replicate (next_multiple_of (length named) 8 - length named) 0 → file ≡ padded ++ flat_map section_row_bytes (section_rows (parts_of t)) → file ≡ elf_file t
 unfolding elf_file
 file_is t f h body named padded file e s n p r =
@@ -156,7 +156,7 @@ relocated_are ss rows (x ∷ xs) a h =
     ∙ relocated_past ss rows x ts (filter has_relocations xs) (has_relocations x) (ap (λ bytes. aligned_8 bytes) (records_are ss rows x.relocations a (h 0 x refl))) (relocated_are ss rows xs a (λ k s e. h (suc k) s e))
 
 -- the body of an object is that of its table
-pub body_is : (o : ObjectData) (rows : List ℕ) → AreRowsOf rows o.symbols → ((k : ℕ) (s : SectionData) → slice_get o.sections k ≡ Some s → NameSymbols (length o.symbols) s.relocations) → body_of o rows ≡ table_body (elf_table_of o)
+body_is : (o : ObjectData) (rows : List ℕ) → AreRowsOf rows o.symbols → ((k : ℕ) (s : SectionData) → slice_get o.sections k ≡ Some s → NameSymbols (length o.symbols) s.relocations) → body_of o rows ≡ table_body (elf_table_of o)
 unfolding elf_table_of
 body_is o rows a h =
     let tail = symbol_contents (rows_in_order o.symbols) ∷ string_contents (row_names (rows_in_order o.symbols)) ∷ [] in
@@ -178,7 +178,7 @@ body_laid o rows h o1 o2 o3 o4 c r s n =
 join : (old z a n r t : List ℕ) → ((((old ++ z) ++ a) ++ n) ++ r) ++ t ≡ old ++ (z ++ ((a ++ (n ++ r)) ++ t))
 join old z a n r t = simp append_assoc
 
-abbrev pub table_names_of : List (List ℕ)
+abbrev table_names_of : List (List ℕ)
 table_names_of = codes ".symtab" ∷ codes ".strtab" ∷ codes ".shstrtab" ∷ []
 
 names_are : (o : ObjectData) → section_names (elf_table_of o) ≡ map own_name o.sections ++ codes ".note.GNU-stack" ∷ map record_name (filter has_relocations o.sections) ++ table_names_of
@@ -265,7 +265,7 @@ names_end t at =
     )
 
 -- where the parts of an object's file end
-pub parts_end : (o : ObjectData) (rows : List ℕ) → ((k : ℕ) (s : ElfTableSection) → slice_get (elf_table_of o).sections k ≡ Some s → HasContents s) → body_of o rows ≡ table_body (elf_table_of o)
+parts_end : (o : ObjectData) (rows : List ℕ) → ((k : ℕ) (s : ElfTableSection) → slice_get (elf_table_of o).sections k ≡ Some s → HasContents s) → body_of o rows ≡ table_body (elf_table_of o)
     → end_of_parts (parts_of (elf_table_of o)) ≡ end_of_aligned 64 (body_of o rows) + (43 + sum_by section_name_size o.sections)
 parts_end o rows has same =
     sym (whole_end_by (elf_table_of o) (fit_by (elf_table_of o) has))
@@ -274,7 +274,7 @@ parts_end o rows has same =
     ∙ ap (λ n. end_of_aligned 64 (body_of o rows) + n) (section_names_size_is o)
 
 -- the body of an object whose symbols have these rows is that of its table
-pub body_by : (o : ObjectData) (rows : List ℕ) → IsFormedElf o → rows ≡ rows_of o.symbols → body_of o rows ≡ table_body (elf_table_of o)
+body_by : (o : ObjectData) (rows : List ℕ) → IsFormedElf o → rows ≡ rows_of o.symbols → body_of o rows ≡ table_body (elf_table_of o)
 body_by o rows formed e = ap (body_of o) e ∙ body_is o (rows_of o.symbols) (rows_are_rows o.symbols) (formed_names o formed (length o.symbols) refl)
 
 pub ends : (o : ObjectData) (rows : List ℕ) → o.format ≡ Elf → AreSections o.format o.sections o.content_sum → IsFormedElf o → rows ≡ rows_of o.symbols

@@ -104,10 +104,10 @@ stored_or_not : (b : Bool) (end : ℕ) (p : Part) → end ≤ cond b (next_multi
 stored_or_not true end p = omega arith
 stored_or_not false end p = omega arith
 
-pub end_after-le : (end : ℕ) (p : Part) → end ≤ end_after end p
+end_after-le : (end : ℕ) (p : Part) → end ≤ end_after end p
 end_after-le end p = stored_or_not (is_stored p) end p
 
-pub ends-le : (end : ℕ) (ps : List Part) → end ≤ fold end_after end ps
+ends-le : (end : ℕ) (ps : List Part) → end ≤ fold end_after end ps
 ends-le end [] = omega arith
 ends-le end (p ∷ ps) = omega (arith, end_after-le end p, ends-le (end_after end p) ps)
 
@@ -184,7 +184,7 @@ rows_more places n m a b c x y z ps qs all f g e w =
 
 -- ---- the room for what is left
 
-pub room_more : (places : List ℕ) (n m : ℕ) (a b : List ℕ) (x y : NextRow) (ps qs all : List Part) → HasRoom places n a x all → PlacesRows places n a b x y ps → m ≡ n + length ps → all ≡ ps ++ qs → HasRoom places m b y qs
+room_more : (places : List ℕ) (n m : ℕ) (a b : List ℕ) (x y : NextRow) (ps qs all : List Part) → HasRoom places n a x all → PlacesRows places n a b x y ps → m ≡ n + length ps → all ≡ ps ++ qs → HasRoom places m b y qs
 room_more places n m a b x y ps qs all h f e w =
     let count : length all ≡ length ps + length qs = ap length w ∙ length-append ps qs in
     let names : sum_by part_name_size all ≡ sum_by part_name_size ps + sum_by part_name_size qs = ap (sum_by part_name_size) w ∙ sum_by-append part_name_size ps qs in
@@ -194,7 +194,7 @@ room_more places n m a b x y ps qs all h f e w =
       each = omega (arith, h.each, e, count);
     }
 
-pub room_front : (places : List ℕ) (n : ℕ) (a : List ℕ) (x : NextRow) (ps qs all : List Part) → HasRoom places n a x all → all ≡ ps ++ qs → HasRoom places n a x ps
+room_front : (places : List ℕ) (n : ℕ) (a : List ℕ) (x : NextRow) (ps qs all : List Part) → HasRoom places n a x all → all ≡ ps ++ qs → HasRoom places n a x ps
 room_front places n a x ps qs all h w =
     let count : length all ≡ length ps + length qs = ap length w ∙ length-append ps qs in
     let names : sum_by part_name_size all ≡ sum_by part_name_size ps + sum_by part_name_size qs = ap (sum_by part_name_size) w ∙ sum_by-append part_name_size ps qs in
@@ -235,7 +235,7 @@ part_names_sum : (ps : List Part) → sum_by part_name_size ps ≡ sum_by (λ na
 part_names_sum [] = refl
 part_names_sum (p ∷ ps) = omega (arith, sum_by-cons part_name_size p ps, sum_by-cons (λ (name : List ℕ). length name + 1) p.name (map part_name ps), part_names_sum ps)
 
-pub part_names_are : (t : ElfTable) → 1 + sum_by part_name_size (parts_of t) ≡ strings_size (section_names t)
+part_names_are : (t : ElfTable) → 1 + sum_by part_name_size (parts_of t) ≡ strings_size (section_names t)
 part_names_are t = ap (λ n. 1 + n) (part_names_sum (parts_of t)) ∙ ap strings_size (names_of_parts t)
 
 -- ---- places below 2 ^ 64
@@ -358,7 +358,7 @@ unfolding HasStarts starts_from
 starts_held places k end [] e = tt
 starts_held places k end (p ∷ ps) e = (first_get places k (start_after end p) (starts_from (end_after end p) ps) e, starts_held places (k + 1) (end_after end p) ps (drop_next places k (start_after end p) (starts_from (end_after end p) ps) e))
 
-pub places_stand : (places : List ℕ) (ps : List Part) → HasStarts places 0 64 ps → length places ≡ length ps → places ≡ places_of ps
+places_stand : (places : List ℕ) (ps : List Part) → HasStarts places 0 64 ps → length places ≡ length ps → places ≡ places_of ps
 places_stand places ps h n = starts_here places 0 64 ps h (omega (arith, n)) ∙ sym (places_are ps)
 
 pub places_held : (places : List ℕ) (ps : List Part) → places ≡ places_of ps → HasStarts places 0 64 ps

@@ -67,7 +67,7 @@ front_within rows xs k at =
     ap (relocated rows) (sym (take-append-drop k xs)) ∙ ap (map (records_at rows)) (filter_append has_relocations (take k xs) (drop k xs)) ∙ map-append (records_at rows) (filter has_relocations (take k xs)) (filter has_relocations (drop k xs)) in
     omega (arith, ap (end_of_aligned at) whole, end_of_aligned-append at (relocated rows (take k xs)) (relocated rows (drop k xs)), end_of_aligned-le (end_of_aligned at (relocated rows (take k xs))) (relocated rows (drop k xs)))
 
-pub length-record_bytes_by : (rows : List ℕ) (rs : List Relocation) → length (record_bytes_by rows rs) ≡ 24 * length rs
+length-record_bytes_by : (rows : List ℕ) (rs : List Relocation) → length (record_bytes_by rows rs) ≡ 24 * length rs
 length-record_bytes_by rows rs = length-rows (λ r. relocation_row_bytes (record_by rows r)) 24 (λ r. length-relocation_row_bytes (record_by rows r)) rs
 
 pub records_end : (rows : List ℕ) (xs : List SectionData) (i : ℕ) (s : SectionData) (at end : ℕ) → i < length xs → s ≡ get_or xs i s → has_relocations s ≡ true → end ≡ end_of_aligned at (relocated rows (take i xs))
