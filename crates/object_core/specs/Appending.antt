@@ -13,7 +13,7 @@ use Rattle.object_core.specs.declared.kinds.SymbolScope.TheVariants as scope
 use Rattle.object_core.specs.declared.kinds.SymbolSection.TheVariants.{Undefined, Absolute, Section}
 use Rattle.object_core.specs.declared.relocation.Relocation.{Relocation}
 use Rattle.object_core.specs.declared.symbol.Symbol.{Symbol}
-use Rattle.object_core.specs.Object.{SectionData, ObjectData}
+use Rattle.object_core.specs.Object.{SymbolData, SectionData, ObjectData, named}
 use Rattle.object_core.specs.Standard.{standard_place, is_same_shared, takes_no_bytes, empty_section, empty_standard, empty_subsection}
 pub use Rattle.ir_core.specs.Changes.{changed_at}
 
@@ -27,15 +27,15 @@ with_build_version o version = record o { build_version = Some version }
 
 -- -- symbols
 
-abbrev pub with_symbol : ObjectData → Symbol → ObjectData
+abbrev pub with_symbol : ObjectData → SymbolData → ObjectData
 with_symbol o s = record o { symbols = o.symbols ++ s ∷ [] }
 
--- an object whose symbol of this number is another
+-- an object whose symbol of this number is another, under its name
 abbrev pub with_symbol_at : ObjectData → ℕ → Symbol → ObjectData
-with_symbol_at o k s = record o { symbols = slice_set o.symbols k s }
+with_symbol_at o k s = record o { symbols = changed_at k (λ old. named old.name s) o.symbols }
 
 -- the symbol that names the source file
-abbrev pub file_symbol : List ℕ → Symbol
+abbrev pub file_symbol : List ℕ → SymbolData
 file_symbol name = record { name = name; value = 0; size = 0; kind = kind.File; scope = scope.Compilation; weak = false; section = Absolute; no_dead_strip = false }
 
 -- -- standard sections
@@ -117,7 +117,7 @@ abbrev pub with_section_room : ObjectData → ℕ → ℕ → ℕ → ObjectData
 with_section_room o section size align = record o { sections = changed_at section (with_room (room_in o.format size) align) o.sections; content_sum = o.content_sum + (room_in o.format size + align) }
 
 -- a symbol that now stands at this offset of a section
-abbrev pub defined_symbol : ℕ → ℕ → ℕ → Symbol → Symbol
+abbrev pub defined_symbol : ℕ → ℕ → ℕ → SymbolData → SymbolData
 defined_symbol section offset size s = record s { value = offset; size = size; section = Section section }
 
 -- an object whose symbol of this number stands at this offset of a section
@@ -138,7 +138,7 @@ with_symbol_bss o symbol section size align = with_definition (with_section_room
 
 -- the object has such a symbol, and it is not defined yet
 abbrev pub IsUndefined : ObjectData → ℕ → Type 0
-IsUndefined o symbol = option_map (λ (s : Symbol). s.section) (slice_get o.symbols symbol) ≡ Some Undefined
+IsUndefined o symbol = option_map (λ (s : SymbolData). s.section) (slice_get o.symbols symbol) ≡ Some Undefined
 
 -- a section of an object of this format takes no bytes of its file
 abbrev pub is_unstored : BinaryFormat → SectionData → Bool
