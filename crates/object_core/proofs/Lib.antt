@@ -1,2 +1,3 @@
+pub mod Texts
 pub mod Sections
 pub mod Standards

@@ -222,8 +222,3 @@ added_data o now i section s new bytes stored align added same is e changed stor
 pub added_room : (o now : ObjectData) (i section : ℕ) (s new : SectionData) (size room align added : ℕ) → o ≡ now → i ≡ section → s ≡ get_or o.sections i s → new ≡ with_room room align s → room ≡ room_in o.format size → added ≡ room_in o.format size + align
     → record o { sections = set o.sections i new; content_sum = o.content_sum + added } ≡ with_section_room now section size align
 added_room o now i section s new size room align added same is e changed takes amount = rw (← same, changed, amount, changed_set (with_room room align) o.sections i s e, takes, is) refl
-
--- what a call leaves that defined a symbol
-pub placed_symbol : (o now : ObjectData) (j symbol section offset size : ℕ) (t defined : Symbol) → o ≡ now → j ≡ symbol → defined ≡ defined_symbol section offset size t → t ≡ get_or o.symbols j t
-    → record o { symbols = set o.symbols j defined } ≡ with_definition now symbol section offset size
-placed_symbol o now j symbol section offset size t defined same is changed e = rw (← same, changed, changed_set (defined_symbol section offset size) o.symbols j t e, is) refl

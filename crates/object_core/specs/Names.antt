@@ -31,7 +31,8 @@ hashed number byte = bit_xor number byte * 0x100000001b3 % 2 ^ 64
 unfoldable pub text_number : List ℕ → ℕ
 text_number text = fold hashed 0xcbf29ce484222325 text
 
-abbrev later : Bool → Option ℕ → Option ℕ
+-- the last of a first place, where it is one, and of places behind it
+abbrev pub later : Bool → Option ℕ → Option ℕ
 later here (Some k) = Some (suc k)
 later true None = Some 0
 later false None = None

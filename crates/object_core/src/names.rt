@@ -1,8 +1,6 @@
 //! Texts that are stored once each, one after the other, and found by a number of 64 bits.
 
 ghost use Rattle.std.specs.Prelude.{◌≡◌, ◌+◌, ◌∷◌, ◌++◌, [], ◌<◌, ◌≤◌, false, length, slice_get, Some, None, IfOk, IfSome, OnErr, OnOk, IsOk, sum_by};
-ghost use Rattle.std.specs.List.{position_from};
-ghost use Rattle.std.specs.Str.{bytes_eq};
 ghost use Rattle.object_core.specs.Names.{is_among, with_text, text_number, last_with};
 
 use std::alloc::{AllocError, Global};
@@ -73,7 +71,8 @@ impl Names {
 
     /// The place of a text.
     pub(crate) fn find(&self, text: &[u8]) -> Option<usize>
-        ensures { result ≡ position_from (bytes_eq text.now) 0 (self.now).texts }
+        ensures found { IfSome result (λ place. slice_get (self.now).texts place ≡ Some text.now) }
+        ensures none { result ≡ None → is_among text.now (self.now).texts ≡ false }
     {
         let mut place = self.last_with(number_of(text));
         while let Some(known) = place {
@@ -103,6 +102,7 @@ impl Names {
     }
 
     /// The places of two texts, each of which is appended where it is new.
+    #[tactic(auto, using(crate::proofs::Texts::get_with_text))]
     pub(crate) fn intern_both(
         &mut self,
         first: &[u8],
@@ -150,7 +150,8 @@ impl Names {
     fn append(&mut self, text: &[u8]) -> usize
         requires texts { 0 < (self.old).spare_texts }
         requires bytes { length text.now ≤ (self.old).spare_bytes }
-        ensures place { result ≡ length (self.old).texts }
+        requires new { is_among text.now (self.old).texts ≡ false }
+        ensures place { slice_get (self.new).texts result ≡ Some text.now }
         ensures texts { (self.new).texts ≡ (self.old).texts ++ text.now ∷ [] }
         ensures spare_texts { (self.old).spare_texts ≤ (self.new).spare_texts + 1 }
         ensures spare_bytes { (self.old).spare_bytes ≤ (self.new).spare_bytes + length text.now }
@@ -163,17 +164,21 @@ impl Names {
         let Ok(older) = self.index.insert(number_of(text), place) else {
             unreachable!()
         };
-        if self.older.push(older).is_err()
-            || self.spans.push(span).is_err()
-            || self.bytes.extend_from_slice(text).is_err()
-        {
+        let Ok(()) = self.older.push(older) else {
             unreachable!()
-        }
+        };
+        let Ok(()) = self.spans.push(span) else {
+            unreachable!()
+        };
+        let Ok(()) = self.bytes.extend_from_slice(text) else {
+            unreachable!()
+        };
         place
     }
 }
 
 // FNV-1a of a text.
+#[tactic(auto, unfolding(crate::specs::Names::text_number))]
 fn number_of(text: &[u8]) -> u64
     ensures { result ≡ text_number text.now }
 {
