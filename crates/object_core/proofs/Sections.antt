@@ -176,6 +176,13 @@ pub size_below : (o now : ObjectData) (i section bound : ℕ) (unstored : Bool) 
 size_below o now i section bound unstored s sound same is h small e =
     size_bound o.format o.sections o.content_sum bound i s sound (rw same small) (mapped_within (is_unstored o.format) o.sections i unstored (held_at o now i section unstored same is h)) e
 
+-- the contents of a section that has bytes are as many as its size
+pub bytes_here : (o now : ObjectData) (i section : ℕ) (s : SectionData) → AreSections o.format o.sections o.content_sum → o ≡ now → i ≡ section → HasBytes now section → s ≡ get_or o.sections i s → length s.contents ≡ s.size
+bytes_here o now i section s sound same is h e =
+    let f = is_unstored o.format in
+    let here = held_at o now i section false same is h in
+    contents_are o.format o.sections o.content_sum i s sound (mapped_within f o.sections i false here) e (mapped_is f o.sections i s false e here)
+
 pub offset_below : (o now : ObjectData) (i section align offset : ℕ) (unstored : Bool) (s : SectionData) → o ≡ now → i ≡ section → option_map (is_unstored now.format) (slice_get now.sections section) ≡ Some unstored → s ≡ get_or o.sections i s → offset ≡ offset_in align s → offset ≡ next_offset now section align
 offset_below o now i section align offset unstored s same is h e at =
     let below = mapped_within (is_unstored o.format) o.sections i unstored (held_at o now i section unstored same is h) in

@@ -44,11 +44,15 @@ sections_in texts places sections = zip_with (section_at texts) places sections
 abbrev pub AreWithin : ℕ → SectionNames → Type 0
 AreWithin count places = (places.segment < count) × (places.name < count)
 
--- the texts are those of the symbols and sections, each counted once, and every place is that of a text
+-- the texts are the names, each once
+pub record AreCounted (texts names : List (List ℕ)) : Type 0 where
+  pub among : (text : List ℕ) → is_among text texts ≡ is_among text names
+  pub size : sum_by length texts ≡ distinct_bytes names
+
+-- the texts are the names of the symbols and sections, and every place is that of a text
 pub record AreNames (texts : List (List ℕ)) (symbol_places : List ℕ) (symbols : List Symbol) (section_places : List SectionNames) (sections : List SectionBody) : Type 0 where
   pub symbols_within : All (λ place. place < length texts) symbol_places
   pub sections_within : All (AreWithin (length texts)) section_places
   pub symbol_count : length symbol_places ≡ length symbols
   pub section_count : length section_places ≡ length sections
-  pub among : (text : List ℕ) → is_among text texts ≡ is_among text (names_of (symbols_in texts symbol_places symbols) (sections_in texts section_places sections))
-  pub size : sum_by length texts ≡ distinct_bytes (names_of (symbols_in texts symbol_places symbols) (sections_in texts section_places sections))
+  pub counted : AreCounted texts (names_of (symbols_in texts symbol_places symbols) (sections_in texts section_places sections))

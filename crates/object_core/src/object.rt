@@ -231,9 +231,12 @@ impl Object {
         self.symbols.reserve(1)?;
         self.symbol_names.reserve(1)?;
         let name = self.names.intern(name)?;
-        if self.symbols.push(symbol).is_err() || self.symbol_names.push(name).is_err() {
+        let Ok(()) = self.symbols.push(symbol) else {
             unreachable!()
-        }
+        };
+        let Ok(()) = self.symbol_names.push(name) else {
+            unreachable!()
+        };
         Ok(id)
     }
 
@@ -306,9 +309,12 @@ impl Object {
         let (segment, name) = self.names.intern_both(segment, name)?;
         let section = Section::new(self.alloc, kind, macho_flags, shared);
         let names = SectionNames { segment, name };
-        if self.sections.push(section).is_err() || self.section_names.push(names).is_err() {
+        let Ok(()) = self.sections.push(section) else {
             unreachable!()
-        }
+        };
+        let Ok(()) = self.section_names.push(names) else {
+            unreachable!()
+        };
         if let Some(standard) = shared {
             self.standard_sections[standard.place()] = Some(number);
         }
