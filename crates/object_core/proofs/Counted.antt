@@ -1,10 +1,10 @@
 -- Names that are counted once each.
-use Rattle.std.proofs.Common.{◌≡◌, ℕ, zero, suc, ◌+◌, ◌<◌, ◌≤◌, ◌++◌, ◌∷◌, ◌||◌, List, [], Bool, true, false, cond, inl, inr, length, get_or, set, Option, Some, refl, ap, sym, ◌∙◌, subst, arith, length-append, map}
+use Rattle.std.proofs.Common.{◌≡◌, ℕ, ◌+◌, ◌++◌, ◌∷◌, ◌||◌, List, [], Bool, true, false, cond, inl, inr, length, refl, ap, sym, ◌∙◌, subst, arith}
 use Rattle.std.proofs.lemmas.Bool.{cases_Bool}
-use Rattle.std.proofs.lemmas.List.{append_assoc, append-nil, map-append}
+use Rattle.std.proofs.lemmas.List.{append_assoc, append-nil}
 use Rattle.std.proofs.lemmas.List.Folds.{list_any-append}
 use Rattle.std.proofs.lemmas.List.Sums.{sum_by-cons, sum_by_push}
-use Rattle.std.specs.Prelude.{slice_get, option_map, unwrap_or, bytes_eq, sum_by, flat_map}
+use Rattle.std.specs.Prelude.{bytes_eq, sum_by}
 use Rattle.object_core.specs.Names.{is_among, distinct, with_text}
 use Rattle.object_core.specs.ObjectNames.{distinct_bytes, AreCounted}
 use Rattle.object_core.proofs.Texts.{same_text, other_text, eq_self}

@@ -1,6 +1,7 @@
 -- Two lists that are joined place by place.
-use Rattle.std.proofs.Common.{◌≡◌, ℕ, zero, suc, ◌<◌, ◌++◌, ◌∷◌, List, [], length, get_or, set, Some, refl, ap, sym, ◌∙◌, arith, map}
-use Rattle.std.specs.Prelude.{slice_get, option_map}
+use Rattle.std.proofs.Common.{◌≡◌, Bool, ◌+◌, ℕ, zero, suc, ◌<◌, ◌++◌, ◌∷◌, List, [], length, get_or, set, Some, refl, ap, ◌∙◌, arith, map}
+use Rattle.std.specs.List.{position_from}
+use Rattle.std.specs.Prelude.{slice_get}
 use Rattle.object_core.specs.Appending.{changed_at}
 use Rattle.object_core.specs.ObjectNames.{zip_with}
 
@@ -53,3 +54,11 @@ same-zip_with f g (z ∷ zs) [] law = refl
 same-zip_with f g (z ∷ zs) (b ∷ bs) law =
     let first : zero < length (z ∷ zs) = omega arith in
     rw (law zero z b first, same-zip_with f g zs bs (λ k x y below. let within : suc k < length (z ∷ zs) = omega (arith, below) in law (suc k) x y within)) refl
+
+-- the first place at which a test passes that the second list has no part in
+pub position-zip_with : {A B C : Type 0} (f : A → B → C) (test : C → Bool) (own : A → Bool) (i : ℕ) (xs : List A) (ys : List B) → ((a : A) (b : B) → test (f a b) ≡ own a) → length xs ≡ length ys → position_from test i (zip_with f xs ys) ≡ position_from own i xs
+position-zip_with f test own i [] ys law h = refl
+position-zip_with f test own i (z ∷ zs) [] law h = absurd (omega (arith, h))
+position-zip_with f test own i (z ∷ zs) (b ∷ bs) law h =
+    let rest : length zs ≡ length bs = omega (arith, h) in
+    rw (law z b, position-zip_with f test own (i + 1) zs bs law rest) refl

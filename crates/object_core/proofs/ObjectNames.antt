@@ -1,5 +1,5 @@
 -- The symbols and sections of an object, by their names' places.
-use Rattle.std.proofs.Common.{◌≡◌, None, ℕ, zero, suc, ◌+◌, ◌<◌, ◌≤◌, ◌++◌, ◌∷◌, List, [], true, false, inl, inr, length, get_or, set, Some, refl, ap, sym, ◌∙◌, subst, arith, length-append, length-set, map}
+use Rattle.std.proofs.Common.{◌≡◌, Option, None, ℕ, zero, suc, ◌<◌, ◌≤◌, ◌++◌, ◌∷◌, List, [], false, inl, inr, length, get_or, set, Some, refl, ap, sym, ◌∙◌, subst, arith, length-append, length-set, map}
 use Rattle.std.proofs.lemmas.Bool.{cases_Bool}
 use Rattle.std.proofs.lemmas.List.{append_assoc, map-append}
 use Rattle.std.proofs.lemmas.List.Concat.{flat_map-cons}
@@ -7,7 +7,8 @@ use Rattle.std.proofs.lemmas.Grind.{flat_map-append}
 use Rattle.std.proofs.lemmas.List.Elements.{All-push, All-get_or}
 use Rattle.std.proofs.lemmas.Option.{slice_get-get_or, slice_get_within, get_or_from_slice_get}
 use Rattle.std.specs.Prelude.{slice_get, option_map, unwrap_or, flat_map}
-use Rattle.std.specs.List.{All}
+use Rattle.std.specs.List.{All, position_from}
+use Rattle.std.specs.Str.{bytes_eq}
 use Rattle.object_core.specs.declared.object.SectionNames.{SectionNames}
 use Rattle.object_core.specs.declared.symbol.Symbol.{Symbol}
 use Rattle.object_core.specs.declared.kinds.SectionKind.TheVariants as held
@@ -17,9 +18,9 @@ use Rattle.object_core.specs.declared.kinds.SymbolSection.TheVariants.{Undefined
 use Rattle.object_core.specs.Object.{SymbolData, SectionData, SectionBody, named, plain_symbol, with_texts, body_of, changed_symbol, changed_body}
 use Rattle.object_core.specs.Appending.{changed_at}
 use Rattle.object_core.specs.Names.{is_among, with_text, text_at}
-use Rattle.object_core.specs.ObjectNames.{zip_with, names_of, symbol_at, section_at, symbols_in, sections_in, AreWithin, AreCounted, AreNames}
+use Rattle.object_core.specs.ObjectNames.{names_of, symbol_at, section_at, symbols_in, sections_in, AreWithin, AreCounted, AreNames}
 use Rattle.object_core.proofs.Texts.{get_with_text}
-use Rattle.object_core.proofs.Joined.{length-zip_with, map-zip_with, get-zip_with, push-zip_with, set-zip_with, same-zip_with, changed-zip_with}
+use Rattle.object_core.proofs.Joined.{length-zip_with, map-zip_with, get-zip_with, push-zip_with, set-zip_with, same-zip_with, changed-zip_with, position-zip_with}
 use Rattle.object_core.proofs.Sections.{changed_set}
 use Rattle.object_core.proofs.Counted.{counted_put, counted_two}
 
@@ -102,6 +103,13 @@ module _ (texts : List (List ℕ)) (places : List ℕ) (symbols : List Symbol) (
       → option_map (λ (x : SectionData). x.segment) (slice_get now id) ≡ Some name
   section_segmented now i id place name same is below e at = ap (option_map (λ (x : SectionData). x.segment)) (section_joined now i id place no_section same is below) ∙ ap (λ (n : SectionNames). Some (text_at texts n.segment)) (sym e) ∙ ap Some (text_is texts place.segment name at)
 
+  -- the first symbol of a name
+  pub first_named : (now : List SymbolData) (listed : List ℕ) (name : List ℕ) (found : Option ℕ) → symbols_in texts places symbols ≡ now → listed ≡ places → found ≡ position_from (λ place. bytes_eq (text_at texts place) name) 0 listed → found ≡ position_from (λ (s : SymbolData). bytes_eq s.name name) 0 now
+  first_named now listed name found same is e =
+      e ∙ ap (position_from (λ place. bytes_eq (text_at texts place) name) 0) is
+      ∙ sym (position-zip_with (symbol_at texts) (λ (s : SymbolData). bytes_eq s.name name) (λ place. bytes_eq (text_at texts place) name) 0 places symbols (λ place s. refl) h.symbol_count)
+      ∙ ap (position_from (λ (s : SymbolData). bytes_eq s.name name) 0) same
+
   -- the section under its texts
   abbrev pub found_section : ℕ → SectionBody → SectionData
   found_section i s = section_at texts (get_or section_places i (record { segment = 0; name = 0 })) s
@@ -163,9 +171,9 @@ symbols_grow texts text places symbols h =
 sections_grow : (texts : List (List ℕ)) (text : List ℕ) (places : List SectionNames) (sections : List SectionBody) → All (AreWithin (length texts)) places → sections_in (with_text texts text) places sections ≡ sections_in texts places sections
 sections_grow texts text places sections h =
     same-zip_with (section_at (with_text texts text)) (section_at texts) places sections
-        (λ k x y below. let within : AreWithin (length texts) (get_or places k x) = All-get_or (AreWithin (length texts)) places k x below h in
-            ap (λ segment. with_texts segment (text_at (with_text texts text) (get_or places k x).name) y) (text_grows texts text (get_or places k x).segment within.0)
-            ∙ ap (λ name. with_texts (text_at texts (get_or places k x).segment) name y) (text_grows texts text (get_or places k x).name within.1))
+    (λ k x y below. let within : AreWithin (length texts) (get_or places k x) = All-get_or (AreWithin (length texts)) places k x below h in
+    ap (λ segment. with_texts segment (text_at (with_text texts text) (get_or places k x).name) y) (text_grows texts text (get_or places k x).segment within.0)
+    ∙ ap (λ name. with_texts (text_at texts (get_or places k x).segment) name y) (text_grows texts text (get_or places k x).name within.1))
 
 places_grow : (n m : ℕ) (places : List ℕ) → n ≤ m → All (λ place. place < n) places → All (λ place. place < m) places
 places_grow n m places le h = λ k d below. omega (arith, le, h k d below)
@@ -211,7 +219,7 @@ sections_pushed texts new places symbols section_places more sections longer seg
     let one : List (List ℕ) = with_text texts segment in
     rw (ps, ss)
     (push-zip_with (section_at new) section_places sections place s h.section_count
-        ∙ rw (text_is new place.segment segment first, text_is new place.name name second, grown, sections_grow one name section_places sections (section_places_grow (length texts) (length one) section_places (count_grows texts segment) h.sections_within), sections_grow texts segment section_places sections h.sections_within) refl)
+    ∙ rw (text_is new place.segment segment first, text_is new place.name name second, grown, sections_grow one name section_places sections (section_places_grow (length texts) (length one) section_places (count_grows texts segment) h.sections_within), sections_grow texts segment section_places sections h.sections_within) refl)
 
 pub symbols_kept : (texts new : List (List ℕ)) (places : List ℕ) (symbols : List Symbol) (section_places : List SectionNames) (sections : List SectionBody) (segment name : List ℕ) → AreNames texts places symbols section_places sections → new ≡ with_text (with_text texts segment) name
     → symbols_in new places symbols ≡ symbols_in texts places symbols

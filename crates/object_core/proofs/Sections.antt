@@ -10,9 +10,8 @@ use Rattle.std.proofs.lemmas.List.Sums.{sum_by-set, sum_by_push, get_or-le-sum_b
 use Rattle.ir_core.specs.declared.target.BinaryFormat.{BinaryFormat}
 use Rattle.ir_core.specs.declared.target.BinaryFormat.TheVariants.{Elf, Coff, Macho, Wasm, Unknown}
 use Rattle.object_core.specs.declared.relocation.Relocation.{Relocation}
-use Rattle.object_core.specs.declared.symbol.Symbol.{Symbol}
 use Rattle.object_core.specs.Object.{SectionData, ObjectData}
-use Rattle.object_core.specs.Appending.{changed_at, retained, relocated, with_contents, with_room, offset_in, next_offset, room_in, stored_in, with_section_data, with_section_room, defined_symbol, with_definition, is_unstored, HasBytes, IsZeroFill, IsSection, AreSections}
+use Rattle.object_core.specs.Appending.{changed_at, retained, relocated, with_contents, with_room, offset_in, next_offset, room_in, stored_in, with_section_data, with_section_room, is_unstored, HasBytes, IsZeroFill, IsSection, AreSections}
 
 -- a place at which a list has a value lies in it
 pub mapped_within : {A B : Type 0} (f : A → B) (xs : List A) (k : ℕ) (y : B) → option_map f (slice_get xs k) ≡ Some y → k < length xs

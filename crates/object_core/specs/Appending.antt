@@ -1,5 +1,5 @@
 -- What each call of an object appends.
-use Rattle.std.specs.Prelude.{◌≡◌, ℕ, zero, suc, ◌+◌, ◌-◌, ◌<◌, ◌≤◌, max, Bool, true, false, List, [], ◌∷◌, ◌++◌, length, replicate, slice_get, slice_set, Option, Some, None, option_map, unwrap_or, sum_by, if◌then◌else◌}
+use Rattle.std.specs.Prelude.{◌≡◌, ℕ, ◌+◌, ◌-◌, ◌<◌, ◌≤◌, max, Bool, true, false, List, [], ◌∷◌, ◌++◌, length, replicate, slice_get, slice_set, Option, Some, None, option_map, unwrap_or, sum_by, if◌then◌else◌}
 use Rattle.std.specs.List.{position_from, All}
 use Rattle.std.specs.Int.{next_multiple_of, is_power_of_two}
 use Rattle.ir_core.specs.declared.target.Architecture.{Architecture}
@@ -170,6 +170,11 @@ pub record AreSections (format : BinaryFormat) (sections : List SectionData) (su
 -- what is kept of the standard sections is where each of them stands, by its place in their order
 abbrev pub KeepsStandards : List (Option ℕ) → List SectionData → Type 0
 KeepsStandards places sections = (standard : StandardSection) → slice_get places (standard_place standard) ≡ Some (standard_at sections standard)
+
+-- what is kept once a section is appended at this number
+abbrev pub kept_places : List (Option ℕ) → Option StandardSection → ℕ → List (Option ℕ)
+kept_places places None number = places
+kept_places places (Some standard) number = slice_set places (standard_place standard) (Some number)
 
 -- the sections of an object are sound, and it keeps where the standard ones stand
 pub record IsKept (format : BinaryFormat) (sections : List SectionData) (sum : ℕ) (places : List (Option ℕ)) : Type 0 where

@@ -1,5 +1,5 @@
 -- Texts that are stored once each, and where each is found.
-use Rattle.std.specs.Prelude.{◌≡◌, ℕ, zero, suc, ◌+◌, ◌*◌, ◌%◌, ◌^◌, ◌≤◌, ◌==◌, Bool, true, false, List, [], ◌∷◌, ◌++◌, map, length, fold, take, drop, slice_get, Option, Some, None, unwrap_or, bit_xor, bytes_eq, sum_by, if◌then◌else◌}
+use Rattle.std.specs.Prelude.{◌≡◌, ℕ, suc, ◌+◌, ◌*◌, ◌%◌, ◌^◌, ◌≤◌, ◌==◌, Bool, true, false, List, [], ◌∷◌, ◌++◌, map, length, fold, take, drop, slice_get, Option, Some, None, unwrap_or, bit_xor, bytes_eq, sum_by, if◌then◌else◌}
 use Rattle.std.specs.List.{All, list_any}
 use Rattle.object_core.specs.declared.names.Span.{Span}
 

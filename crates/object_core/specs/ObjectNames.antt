@@ -1,5 +1,5 @@
 -- The names of an object's symbols and sections.
-use Rattle.std.specs.Prelude.{◌≡◌, ℕ, ◌<◌, Bool, List, [], ◌∷◌, ◌++◌, map, flat_map, length, sum_by}
+use Rattle.std.specs.Prelude.{◌≡◌, ℕ, ◌<◌, List, [], ◌∷◌, ◌++◌, map, flat_map, length, sum_by}
 use Rattle.std.specs.List.{All}
 use Rattle.object_core.specs.declared.object.SectionNames.{SectionNames}
 use Rattle.object_core.specs.declared.symbol.Symbol.{Symbol}

@@ -3,6 +3,7 @@
 ghost use Rattle.std.specs.Prelude.{◌≡◌, ◌+◌, ◌∷◌, ◌++◌, [], ◌<◌, ◌≤◌, false, length, slice_get, Some, None, IfOk, IfSome, OnErr, OnOk, IsOk, sum_by};
 ghost use Rattle.object_core.specs.Names.{is_among, with_text, text_number, last_with};
 
+use crate::placing::push_reserved;
 use std::alloc::{AllocError, Global};
 use std::collections::HashMap;
 use std::marker::Model;
@@ -164,12 +165,8 @@ impl Names {
         let Ok(older) = self.index.insert(number_of(text), place) else {
             unreachable!()
         };
-        let Ok(()) = self.older.push(older) else {
-            unreachable!()
-        };
-        let Ok(()) = self.spans.push(span) else {
-            unreachable!()
-        };
+        push_reserved(&mut self.older, older);
+        push_reserved(&mut self.spans, span);
         let Ok(()) = self.bytes.extend_from_slice(text) else {
             unreachable!()
         };

@@ -12,9 +12,10 @@ ghost use Rattle.object_core.specs.Object.{named, plain_symbol, body_of};
 ghost use Rattle.object_core.specs.Names.{text_at};
 ghost use Rattle.object_core.specs.ObjectNames.{name_bytes};
 ghost use Rattle.object_core.specs.Standard.{empty_section};
-ghost use Rattle.object_core.specs.Appending.{empty_object, with_build_version, with_symbol, with_symbol_at, file_symbol, standard_at, with_standard_section, with_subsection, with_section, with_retain, with_relocation, next_offset, room_in, stored_in, with_section_data, with_section_room, with_definition, with_symbol_data, with_symbol_zeros, with_symbol_bss, IsUndefined, HasBytes, IsZeroFill, AreSections};
+ghost use Rattle.object_core.specs.Appending.{empty_object, with_build_version, with_symbol, with_symbol_at, file_symbol, standard_at, with_standard_section, with_subsection, with_section, with_retain, with_relocation, next_offset, room_in, stored_in, with_section_data, with_section_room, with_definition, with_symbol_data, with_symbol_zeros, with_symbol_bss, IsUndefined, HasBytes, IsZeroFill, AreSections, kept_places};
 
 use crate::names::Names;
+use crate::placing::push_reserved;
 use crate::{
     MachOBuildVersion, Relocation, Section, SectionId, SectionKind, StandardSection, Symbol,
     SymbolId, SymbolKind, SymbolScope, SymbolSection,
@@ -199,8 +200,10 @@ impl Object {
     pub fn symbol_id(&self, name: &[u8]) -> Option<SymbolId>
         ensures { result ≡ position_from (λ s. bytes_eq s.name name.now) 0 (self.now).symbols }
     {
-        let number = place_named(&self.names, &self.symbol_names, name)?;
-        Some(SymbolId::from_number(number))
+        match place_named(&self.names, &self.symbol_names, name) {
+            Some(number) => Some(SymbolId::from_number(number)),
+            None => None,
+        }
     }
 
     /// Appends the symbol of the source file's name.
@@ -228,15 +231,13 @@ impl Object {
         ensures err { OnErr result (self.new ≡ self.old) }
     {
         let id = SymbolId::from_number(self.symbols.len());
+        // The check needs the type of this part told.
+        let _section = symbol.section;
         self.symbols.reserve(1)?;
         self.symbol_names.reserve(1)?;
         let name = self.names.intern(name)?;
-        let Ok(()) = self.symbols.push(symbol) else {
-            unreachable!()
-        };
-        let Ok(()) = self.symbol_names.push(name) else {
-            unreachable!()
-        };
+        push_reserved(&mut self.symbols, symbol);
+        push_reserved(&mut self.symbol_names, name);
         Ok(id)
     }
 
@@ -309,15 +310,9 @@ impl Object {
         let (segment, name) = self.names.intern_both(segment, name)?;
         let section = Section::new(self.alloc, kind, macho_flags, shared);
         let names = SectionNames { segment, name };
-        let Ok(()) = self.sections.push(section) else {
-            unreachable!()
-        };
-        let Ok(()) = self.section_names.push(names) else {
-            unreachable!()
-        };
-        if let Some(standard) = shared {
-            self.standard_sections[standard.place()] = Some(number);
-        }
+        push_reserved(&mut self.sections, section);
+        push_reserved(&mut self.section_names, names);
+        keep_place(&mut self.standard_sections, shared, number);
         Ok(SectionId::from_number(number))
     }
 
@@ -501,6 +496,15 @@ fn stored_in<'a>(format: BinaryFormat, contents: &'a [u8]) -> &'a [u8]
     match format {
         BinaryFormat::Macho if contents.is_empty() => &[0],
         _ => contents,
+    }
+}
+
+// Keeps the number of a section that is a standard one.
+fn keep_place(places: &mut [Option<usize>; 7], shared: Option<StandardSection>, number: usize)
+    ensures { places.new ≡ kept_places places.old shared number }
+{
+    if let Some(standard) = shared {
+        places[standard.place()] = Some(number);
     }
 }
 

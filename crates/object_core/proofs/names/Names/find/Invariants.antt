@@ -1,4 +1,3 @@
-use Rattle.std.proofs.Common.{ℕ}
 use Rattle.object_core.proofs.Texts.{IsLeft, through}
 use Rattle.object_core.proofs.names.Names.find.Given as goal
 

@@ -1,8 +1,8 @@
 use Rattle.std.proofs.Common.{ap, refl, sym, ◌∙◌, ◌+◌, ℕ, length, arith}
-use Rattle.object_core.specs.Object.{SectionData, ObjectData}
+use Rattle.object_core.specs.Object.{ObjectData}
 use Rattle.object_core.specs.Appending.{with_contents}
 use Rattle.object_core.specs.contracts.object.Object.{the_view}
-use Rattle.object_core.proofs.ObjectNames.{section_here, found_section, found_is, set_section, names_set_section}
+use Rattle.object_core.proofs.ObjectNames.{section_here, found_is, set_section, names_set_section}
 use Rattle.object_core.proofs.Sections.{mapped_within, bytes_here, size_below, offset_below, sound_contents, added_data, length-stored_in}
 use Rattle.object_core.proofs.Standards.{kept_set}
 use Rattle.object_core.proofs.object.Object.append_section_data.Goals as goal

@@ -1,7 +1,6 @@
 use Rattle.std.proofs.Common.{ap, arith, refl}
 use Rattle.object_core.specs.Object.{ObjectData}
 use Rattle.object_core.specs.Appending.{defined_symbol}
-use Rattle.object_core.specs.contracts.object.Object.{the_view}
 use Rattle.object_core.proofs.ObjectNames.{symbol_here, set_symbol, names_set_symbol}
 use Rattle.object_core.proofs.Sections.{mapped_within}
 use Rattle.object_core.proofs.object.Object.define_symbol.Goals as goal

@@ -1,8 +1,8 @@
 use Rattle.std.proofs.Common.{ap, refl, arith}
-use Rattle.object_core.specs.Object.{SectionData, ObjectData}
+use Rattle.object_core.specs.Object.{ObjectData}
 use Rattle.object_core.specs.Appending.{retained}
 use Rattle.object_core.specs.contracts.object.Object.{the_view}
-use Rattle.object_core.proofs.ObjectNames.{section_here, found_section, found_is, set_section, names_set_section}
+use Rattle.object_core.proofs.ObjectNames.{section_here, found_is, set_section, names_set_section}
 use Rattle.object_core.proofs.Sections.{sound_retained, changed_section}
 use Rattle.object_core.proofs.Standards.{kept_set}
 use Rattle.object_core.proofs.object.Object.set_retain.Goals as goal
