@@ -15,7 +15,7 @@ ghost use Rattle.object_elf.specs.Layout.{end_of_parts, string_bytes_of};
 ghost use Rattle.object_elf.specs.Limits.{IsJudged, IsWithinLimits};
 ghost use Rattle.object_elf.specs.PartView.{part_view, part_name_size, with_end};
 ghost use Rattle.object_elf.specs.PlainCounts.{plain_counts};
-ghost use Rattle.object_elf.specs.Writing.{body_of, NumbersFit, contents_at, FitRows, FitSizes, names_size, chosen, rows_in_order, row_names};
+ghost use Rattle.object_elf.specs.Writing.{plain, body_of, NumbersFit, contents_at, FitRows, FitSizes, names_size, chosen, rows_in_order, row_names};
 
 use crate::header::push_header;
 use crate::layout::{PartHeader, end_of_parts, parts_of};
@@ -25,7 +25,7 @@ use crate::section_rows::push_section_rows;
 use crate::strings::{push_part_names, push_symbol_names};
 use crate::symbol_rows::push_symbol_rows;
 use byte_core::{align_up, push_padding, push_zeros};
-use object_core::{EmitError, Object, Section, Symbol};
+use object_core::{EmitError, Object, Section};
 use std::alloc::{AllocError, Global};
 
 /// The bytes of the object's ELF64 file. They hold exactly its link table, read by positions. TooMany and TooLarge name
@@ -50,7 +50,7 @@ fn write_file(alloc: Global, object: &Object) -> Result<Vec<u8>, AllocError>
     ensures bytes { IfOk result (λ file. file.items ≡ elf_file (elf_table_of object.now)) }
 {
     let parts = parts_of(alloc, object)?;
-    let rows = rows_of_symbols(alloc, object.symbols())?;
+    let rows = rows_of_symbols(alloc, object)?;
     let count = parts.len() as u16;
     let start = headers_start(&parts)?;
     let mut file = Vec::with_capacity(alloc, file_length(start, count)?)?;
@@ -75,11 +75,10 @@ fn push_body(file: &mut Vec<u8>, object: &Object, rows: &[u32]) -> Result<(), Al
     ensures numbers { OnOk result (NumbersFit object.now) }
 {
     let sections = object.sections();
-    let symbols = object.symbols();
     push_contents(file, sections)?;
     push_relocations(file, sections, rows)?;
-    push_symbol_table(file, symbols)?;
-    push_symbol_strings(file, symbols)?;
+    push_symbol_table(file, object)?;
+    push_symbol_strings(file, object)?;
     Ok(())
 }
 
@@ -117,8 +116,8 @@ fn file_length(start: u64, count: u16) -> Result<usize, AllocError>
 
 /// Appends the bytes of the sections, each at a multiple of its alignment.
 fn push_contents(out: &mut Vec<u8>, sections: &[Section]) -> Result<(), AllocError>
-    ensures contents { OnOk result (LaysOut out.old.items out.new.items (map contents_at sections.now)) }
-    ensures aligns { OnOk result ((k : ℕ) (s : SectionData) → slice_get sections.now k ≡ Some s → s.align < 2 ^ 64) }
+    ensures contents { OnOk result (LaysOut out.old.items out.new.items (map contents_at (map plain sections.now))) }
+    ensures aligns { OnOk result ((k : ℕ) (s : SectionData) → slice_get (map plain sections.now) k ≡ Some s → s.align < 2 ^ 64) }
 {
     for section in sections {
         push_padding(out, stored_align(section))?;
@@ -129,7 +128,7 @@ fn push_contents(out: &mut Vec<u8>, sections: &[Section]) -> Result<(), AllocErr
 
 /// The alignment of a section's bytes in the file, 1 where it has none.
 fn stored_align(section: &Section) -> u64
-    ensures value { result ≡ (contents_at section.now).align }
+    ensures value { result ≡ (contents_at (plain section.now)).align }
     ensures bound { (section.now).align < 2 ^ 64 }
 {
     let align = section.align();
@@ -141,26 +140,26 @@ fn stored_align(section: &Section) -> u64
 }
 
 /// Appends the symbol table: the null row, the local symbols and the others.
-fn push_symbol_table(out: &mut Vec<u8>, symbols: &[Symbol]) -> Result<(), AllocError>
-    requires fits { FitRows symbols.now }
-    requires names { 1 + names_size (chosen true symbols.now) + names_size (chosen false symbols.now) < 2 ^ 32 }
-    ensures table { OnOk result (LaysOut out.old.items out.new.items (symbol_contents (rows_in_order symbols.now) ∷ [])) }
-    ensures local_sizes { OnOk result (FitSizes true symbols.now) }
-    ensures other_sizes { OnOk result (FitSizes false symbols.now) }
+fn push_symbol_table(out: &mut Vec<u8>, object: &Object) -> Result<(), AllocError>
+    requires fits { FitRows (object.now).symbols }
+    requires names { 1 + names_size (chosen true (object.now).symbols) + names_size (chosen false (object.now).symbols) < 2 ^ 32 }
+    ensures table { OnOk result (LaysOut out.old.items out.new.items (symbol_contents (rows_in_order (object.now).symbols) ∷ [])) }
+    ensures local_sizes { OnOk result (FitSizes true (object.now).symbols) }
+    ensures other_sizes { OnOk result (FitSizes false (object.now).symbols) }
 {
     push_padding(out, 8)?;
     push_zeros(out, 24)?;
-    let place = push_symbol_rows(out, symbols, true, 1)?;
-    push_symbol_rows(out, symbols, false, place)?;
+    let place = push_symbol_rows(out, object, true, 1)?;
+    push_symbol_rows(out, object, false, place)?;
     Ok(())
 }
 
 /// Appends the string section of the symbol table.
-fn push_symbol_strings(out: &mut Vec<u8>, symbols: &[Symbol]) -> Result<(), AllocError>
-    ensures { OnOk result (out.new.items ≡ out.old.items ++ string_bytes_of (row_names (rows_in_order symbols.now))) }
+fn push_symbol_strings(out: &mut Vec<u8>, object: &Object) -> Result<(), AllocError>
+    ensures { OnOk result (out.new.items ≡ out.old.items ++ string_bytes_of (row_names (rows_in_order (object.now).symbols))) }
 {
     out.push(0)?;
-    push_symbol_names(out, symbols, true)?;
-    push_symbol_names(out, symbols, false)?;
+    push_symbol_names(out, object, true)?;
+    push_symbol_names(out, object, false)?;
     Ok(())
 }

@@ -1,18 +1,18 @@
 //! The parts of the file in order, and where they end. Each starts at a multiple of its alignment.
 
-ghost use Rattle.std.specs.Prelude.{◌≡◌, ℕ, ◌+◌, ◌*◌, ◌≤◌, ◌<◌, ◌^◌, ◌++◌, Some, MatchOption, IfSome, IfOk, OnOk, map, slice_get, length, count_by};
+ghost use Rattle.std.specs.Prelude.{[], ◌≡◌, ℕ, ◌+◌, ◌*◌, ◌≤◌, ◌<◌, ◌^◌, ◌++◌, Some, MatchOption, IfSome, IfOk, OnOk, map, slice_get, length, count_by};
 ghost use Rattle.object_core.specs.ElfRows.{elf_table_of, elf_section_type, elf_section_flags, retain_flag};
-ghost use Rattle.object_core.specs.Object.{SectionData, is_local};
+ghost use Rattle.object_core.specs.Object.{SectionData, is_local_symbol, with_texts};
 ghost use Rattle.object_elf.specs.Layout.{end_after, end_of_parts, start_after, string_part, parts_of};
 ghost use Rattle.object_elf.specs.PlainCounts.{plain_counts};
 ghost use Rattle.object_elf.specs.Limits.{IsWithinLimits};
-ghost use Rattle.object_elf.specs.Writing.{has_relocations};
+ghost use Rattle.object_elf.specs.Writing.{has_relocations, plain};
 ghost use Rattle.object_elf.specs.PartView.{part_view, symbol_part_of, content_part_of, relocation_part_of, relocation_parts_from};
 
 use crate::limits::{relocated_count, section_names_size, symbol_names_size};
 use crate::symbol_rows::local_count;
 use byte_core::align_up;
-use object_core::{Object, Section, SectionKind, Symbol};
+use object_core::{Object, Section, SectionId, SectionKind, Symbol};
 use std::alloc::{AllocError, Global};
 
 /// A section of the file, by the fields of its header but for the places: System V gABI, "Sections".
@@ -52,22 +52,21 @@ pub(crate) fn parts_of<'a>(
     ensures { IfOk result (λ parts. map part_view parts.items ≡ parts_of (elf_table_of object.now)) }
 {
     let sections = object.sections();
-    let symbols = object.symbols();
     let table = symbol_table_row(sections);
     let mut parts = Vec::new(alloc);
-    push_content_parts(&mut parts, sections)?;
+    push_content_parts(&mut parts, object)?;
     parts.push(NOTE_PART)?;
-    push_relocation_parts(&mut parts, sections, table)?;
-    parts.push(symbol_part(symbols, table))?;
-    parts.push(string_part(b".strtab", symbol_names_size(symbols) as u64))?;
-    parts.push(string_part(b".shstrtab", section_names_size(sections) as u64))?;
+    push_relocation_parts(&mut parts, object, table)?;
+    parts.push(symbol_part(object.symbols(), table))?;
+    parts.push(string_part(b".strtab", symbol_names_size(object) as u64))?;
+    parts.push(string_part(b".shstrtab", section_names_size(object) as u64))?;
     Ok(parts)
 }
 
 /// The header row of the symbol table.
 fn symbol_table_row(sections: &[Section]) -> u32
-    requires { length sections.now + 2 + count_by has_relocations sections.now < 2 ^ 32 }
-    ensures { result ≡ length sections.now + 2 + count_by has_relocations sections.now }
+    requires { length sections.now + 2 + count_by has_relocations (map plain sections.now) < 2 ^ 32 }
+    ensures { result ≡ length sections.now + 2 + count_by has_relocations (map plain sections.now) }
 {
     (sections.len() + 2 + relocated_count(sections)) as u32
 }
@@ -75,7 +74,7 @@ fn symbol_table_row(sections: &[Section]) -> u32
 fn symbol_part(symbols: &[Symbol], table: u32) -> PartHeader<'static>
     requires symbols { length symbols.now + 1 < 2 ^ 32 }
     requires table { table + 1 < 2 ^ 32 }
-    ensures { part_view result ≡ symbol_part_of (length symbols.now) (1 + count_by is_local symbols.now) table }
+    ensures { part_view result ≡ symbol_part_of (length symbols.now) (1 + count_by is_local_symbol symbols.now) table }
 {
     PartHeader {
         prefix: b"",
@@ -140,13 +139,14 @@ pub(crate) fn end_of_parts(parts: &[PartHeader<'_>]) -> Option<u64>
 /// Appends a part for each section of the object.
 pub(crate) fn push_content_parts<'a>(
     parts: &mut Vec<PartHeader<'a>>,
-    sections: &'a [Section],
+    object: &'a Object,
 ) -> Result<(), AllocError>
-    requires { (k : ℕ) (s : SectionData) → slice_get sections.now k ≡ Some s → s.size < 2 ^ 64 }
-    ensures { OnOk result (map part_view parts.new.items ≡ map part_view parts.old.items ++ map content_part_of sections.now) }
+    requires { (k : ℕ) (s : SectionData) → slice_get (object.now).sections k ≡ Some s → s.size < 2 ^ 64 }
+    ensures { OnOk result (map part_view parts.new.items ≡ map part_view parts.old.items ++ map content_part_of (object.now).sections) }
 {
-    for section in sections {
-        parts.push(content_part(section))?;
+    for (number, section) in object.sections().iter().enumerate() {
+        let name = object.section_name(SectionId::from_number(number));
+        parts.push(content_part(section, name))?;
     }
     Ok(())
 }
@@ -154,29 +154,30 @@ pub(crate) fn push_content_parts<'a>(
 /// Appends a part for the relocations of each section that has some. The symbol table has the header row `link`.
 pub(crate) fn push_relocation_parts<'a>(
     parts: &mut Vec<PartHeader<'a>>,
-    sections: &'a [Section],
+    object: &'a Object,
     link: u32,
 ) -> Result<(), AllocError>
-    requires { length sections.now + 1 < 2 ^ 32 }
-    ensures { OnOk result (map part_view parts.new.items ≡ map part_view parts.old.items ++ relocation_parts_from link 1 sections.now) }
+    requires { length (object.now).sections + 1 < 2 ^ 32 }
+    ensures { OnOk result (map part_view parts.new.items ≡ map part_view parts.old.items ++ relocation_parts_from link 1 (object.now).sections) }
 {
     let mut row = 1;
-    for section in sections {
+    for (number, section) in object.sections().iter().enumerate() {
         if !section.relocations().is_empty() {
-            parts.push(relocation_part(section, row, link)?)?;
+            let name = object.section_name(SectionId::from_number(number));
+            parts.push(relocation_part(section, name, row, link)?)?;
         }
         row += 1;
     }
     Ok(())
 }
 
-fn content_part(section: &Section) -> PartHeader<'_>
+fn content_part<'a>(section: &Section, name: &'a [u8]) -> PartHeader<'a>
     requires { (section.now).size < 2 ^ 64 }
-    ensures { part_view result ≡ content_part_of section.now }
+    ensures { part_view result ≡ content_part_of (with_texts [] name.now section.now) }
 {
     PartHeader {
         prefix: b"",
-        name: section.name(),
+        name,
         sh_type: section_type(section.kind()),
         flags: section_flags(section),
         size: section.size() as u64,
@@ -187,13 +188,18 @@ fn content_part(section: &Section) -> PartHeader<'_>
     }
 }
 
-fn relocation_part(section: &Section, row: u32, link: u32) -> Result<PartHeader<'_>, AllocError>
-    ensures { IfOk result (λ part. part_view part ≡ relocation_part_of link (row, section.now)) }
+fn relocation_part<'a>(
+    section: &Section,
+    name: &'a [u8],
+    row: u32,
+    link: u32,
+) -> Result<PartHeader<'a>, AllocError>
+    ensures { IfOk result (λ part. part_view part ≡ relocation_part_of link (row, with_texts [] name.now section.now)) }
 {
     let size = (section.relocations().len() as u64).checked_mul(24);
     Ok(PartHeader {
         prefix: b".rela",
-        name: section.name(),
+        name,
         sh_type: 4,
         flags: 0x40,
         size: size.ok_or(AllocError)?,

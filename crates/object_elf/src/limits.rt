@@ -1,11 +1,12 @@
 //! The limits of the format, which are this project's own choice.
 
-ghost use Rattle.std.specs.Prelude.{◌≡◌, ◌+◌, ◌<◌, ◌≤◌, ◌^◌, length, count_by, sum_by};
-ghost use Rattle.object_elf.specs.Writing.{has_relocations};
+ghost use Rattle.std.specs.Prelude.{[], map, ◌≡◌, ◌+◌, ◌<◌, ◌≤◌, ◌^◌, length, count_by, sum_by};
+ghost use Rattle.object_elf.specs.Writing.{has_relocations, plain};
+ghost use Rattle.object_core.specs.Object.{with_texts};
 ghost use Rattle.object_elf.specs.Limits.{IsJudged};
 ghost use Rattle.object_elf.specs.PlainCounts.{plain_counts, symbol_name_size, section_name_size};
 
-use object_core::{EmitError, Object, Section, Symbol, What};
+use object_core::{EmitError, Object, Section, SectionId, SymbolId, What};
 
 const SECTIONS: u128 = 65_280;
 
@@ -20,12 +21,11 @@ pub(crate) fn check_limits(object: &Object) -> Result<(), EmitError>
     ensures { IsJudged result (plain_counts object.now) }
 {
     let sections = object.sections();
-    let symbols = object.symbols();
     let rows = sections.len() as u128 + relocated_count(sections) as u128 + 5;
     if rows >= SECTIONS {
         return Err(too_many_sections(rows));
     }
-    let count = symbols.len() as u64 + 1;
+    let count = object.symbols().len() as u64 + 1;
     if count >= SYMBOLS {
         let what = What::Symbols;
         return Err(EmitError::TooMany { what, count });
@@ -35,7 +35,7 @@ pub(crate) fn check_limits(object: &Object) -> Result<(), EmitError>
         let what = What::Contents;
         return Err(EmitError::TooLarge { what, amount });
     }
-    let amount = symbol_names_size(symbols) + section_names_size(sections);
+    let amount = symbol_names_size(object) + section_names_size(object);
     if amount >= NAMES {
         let what = What::Names;
         return Err(EmitError::TooLarge { what, amount });
@@ -59,7 +59,7 @@ fn too_many_sections(rows: u128) -> EmitError
 
 /// How many sections have relocations.
 pub(crate) fn relocated_count(sections: &[Section]) -> usize
-    ensures { result ≡ count_by has_relocations sections.now }
+    ensures { result ≡ count_by has_relocations (map plain sections.now) }
 {
     sections
         .iter()
@@ -68,42 +68,43 @@ pub(crate) fn relocated_count(sections: &[Section]) -> usize
 }
 
 pub(crate) fn has_relocations(section: &Section) -> bool
-    ensures { result ≡ has_relocations section.now }
+    ensures { result ≡ has_relocations (plain section.now) }
 {
     !section.relocations().is_empty()
 }
 
 /// The bytes of the string section of the symbols.
-pub(crate) fn symbol_names_size(symbols: &[Symbol]) -> u128
-    requires { length symbols.now < 2 ^ 32 }
-    ensures value { result ≡ 1 + sum_by symbol_name_size symbols.now }
+pub(crate) fn symbol_names_size(object: &Object) -> u128
+    requires { length (object.now).symbols < 2 ^ 32 }
+    ensures value { result ≡ 1 + sum_by symbol_name_size (object.now).symbols }
     ensures bound { result < 2 ^ 97 }
 {
     let mut size = 1;
-    for symbol in symbols {
-        size += symbol.name.as_slice().len() as u128 + 1;
+    for number in 0..object.symbols().len() {
+        size += object.symbol_name(SymbolId::from_number(number)).len() as u128 + 1;
     }
     size
 }
 
 /// The bytes of the string section of the sections.
-pub(crate) fn section_names_size(sections: &[Section]) -> u128
-    requires { length sections.now < 65280 }
-    ensures value { result ≡ 43 + sum_by section_name_size sections.now }
+pub(crate) fn section_names_size(object: &Object) -> u128
+    requires { length (object.now).sections < 65280 }
+    ensures value { result ≡ 43 + sum_by section_name_size (object.now).sections }
     ensures bound { result < 2 ^ 97 }
 {
     let mut size = 43;
-    for section in sections {
-        size += section_name_size(section);
+    for (number, section) in object.sections().iter().enumerate() {
+        let name = object.section_name(SectionId::from_number(number));
+        size += section_name_size(section, name);
     }
     size
 }
 
-fn section_name_size(section: &Section) -> u128
-    ensures value { result ≡ section_name_size section.now }
+fn section_name_size(section: &Section, name: &[u8]) -> u128
+    ensures value { result ≡ section_name_size (with_texts [] name.now section.now) }
     ensures bound { result < 2 ^ 66 }
 {
-    let name = section.name().len() as u128;
+    let name = name.len() as u128;
     if has_relocations(section) {
         name + 1 + (name + 6)
     } else {

@@ -5,19 +5,20 @@ ghost use Rattle.byte_core.specs.LaidOut.{LaysOut};
 ghost use Rattle.object_core.specs.ElfRows.{elf_type_of};
 ghost use Rattle.object_core.specs.Object.{SectionData};
 ghost use Rattle.object_elf.specs.File.{relocation_row_bytes};
-ghost use Rattle.object_elf.specs.Writing.{AreRowsOf, NameSymbols, FitsRecord, FitRecords, record_by, record_bytes_by, records_at, has_relocations};
+ghost use Rattle.object_elf.specs.Writing.{AreRowsOf, NameSymbols, FitsRecord, FitRecords, record_by, record_bytes_by, records_at, has_relocations, plain};
 
 use crate::symbol_rows::{is_local, local_count};
 use byte_core::{Field, push_fields, push_padding};
-use object_core::{Relocation, RelocationFlags, Section, Symbol};
+use object_core::{Object, Relocation, RelocationFlags, Section};
 use std::alloc::{AllocError, Global};
 
 /// The row of each symbol in the table, by the symbol's number.
-pub(crate) fn rows_of_symbols(alloc: Global, symbols: &[Symbol]) -> Result<Vec<u32>, AllocError>
-    requires { length symbols.now + 1 < 2 ^ 32 }
-    ensures count { IfOk result (λ rows. length rows.items ≡ length symbols.now) }
-    ensures rows { IfOk result (λ rows. AreRowsOf rows.items symbols.now) }
+pub(crate) fn rows_of_symbols(alloc: Global, object: &Object) -> Result<Vec<u32>, AllocError>
+    requires { length (object.now).symbols + 1 < 2 ^ 32 }
+    ensures count { IfOk result (λ rows. length rows.items ≡ length (object.now).symbols) }
+    ensures rows { IfOk result (λ rows. AreRowsOf rows.items (object.now).symbols) }
 {
+    let symbols = object.symbols();
     let mut local: u32 = 1;
     let mut other = 1 + local_count(symbols) as u32;
     let mut rows = Vec::with_capacity(alloc, symbols.len())?;
@@ -39,9 +40,9 @@ pub(crate) fn push_relocations(
     sections: &[Section],
     rows: &[u32],
 ) -> Result<(), AllocError>
-    requires { (k : ℕ) (s : SectionData) → slice_get sections.now k ≡ Some s → NameSymbols (length rows.now) s.relocations }
-    ensures records { OnOk result (LaysOut out.old.items out.new.items (map (records_at rows.now) (filter has_relocations sections.now))) }
-    ensures fit { OnOk result ((k : ℕ) (s : SectionData) → slice_get sections.now k ≡ Some s → FitRecords s.relocations) }
+    requires { (k : ℕ) (s : SectionData) → slice_get (map plain sections.now) k ≡ Some s → NameSymbols (length rows.now) s.relocations }
+    ensures records { OnOk result (LaysOut out.old.items out.new.items (map (records_at rows.now) (filter has_relocations (map plain sections.now)))) }
+    ensures fit { OnOk result ((k : ℕ) (s : SectionData) → slice_get (map plain sections.now) k ≡ Some s → FitRecords s.relocations) }
 {
     for section in sections {
         if section.relocations().is_empty() {

@@ -7,22 +7,22 @@ ghost use Rattle.object_elf.specs.Writing.{chosen_names};
 
 use crate::layout::PartHeader;
 use crate::symbol_rows::is_chosen;
-use object_core::Symbol;
+use object_core::{Object, SymbolId};
 use std::alloc::AllocError;
 
 /// Appends the names of the local symbols, or of the others.
 pub(crate) fn push_symbol_names(
     out: &mut Vec<u8>,
-    symbols: &[Symbol],
+    object: &Object,
     local: bool,
 ) -> Result<(), AllocError>
-    ensures { OnOk result (out.new.items ≡ out.old.items ++ chosen_names local symbols.now) }
+    ensures { OnOk result (out.new.items ≡ out.old.items ++ chosen_names local (object.now).symbols) }
 {
-    for symbol in symbols {
+    for (number, symbol) in object.symbols().iter().enumerate() {
         if !is_chosen(symbol, local) {
             continue;
         }
-        push_text(out, symbol.name.as_slice())?;
+        push_text(out, object.symbol_name(SymbolId::from_number(number)))?;
     }
     Ok(())
 }

@@ -1,18 +1,18 @@
 //! Rows of the symbol table: System V gABI, "Symbol Table".
 
-ghost use Rattle.std.specs.Prelude.{◌≡◌, ◌+◌, ◌<◌, ◌^◌, ◌++◌, IfOk, OnOk, flat_map, count_by};
-ghost use Rattle.object_core.specs.Object.{is_local, is_in_section};
+ghost use Rattle.std.specs.Prelude.{◌≡◌, ◌+◌, ◌<◌, ◌^◌, ◌++◌, [], IfOk, OnOk, flat_map, count_by};
+ghost use Rattle.object_core.specs.Object.{is_local_symbol, is_in_section, named};
 ghost use Rattle.object_core.specs.ElfRows.{elf_binding, elf_symbol_type, elf_other, elf_shndx, elf_symbol};
 ghost use Rattle.object_elf.specs.File.{symbol_row_with, symbol_row_bytes, symbol_rows_from};
-ghost use Rattle.object_elf.specs.Writing.{is_chosen, chosen, names_size, FitsRow, FitRows, FitSizes};
+ghost use Rattle.object_elf.specs.Writing.{is_chosen_symbol, chosen, names_size, FitsRow, FitRows, FitSizes};
 
 use byte_core::{Field, push_fields};
-use object_core::{Symbol, SymbolKind, SymbolScope, SymbolSection};
+use object_core::{Object, Symbol, SymbolId, SymbolKind, SymbolScope, SymbolSection};
 use std::alloc::AllocError;
 
 /// The symbol stands before those that aren't local.
 pub(crate) fn is_local(symbol: &Symbol) -> bool
-    ensures { result ≡ is_local symbol.now }
+    ensures { result ≡ is_local_symbol symbol.now }
 {
     match symbol.kind {
         SymbolKind::File | SymbolKind::Label => true,
@@ -22,7 +22,7 @@ pub(crate) fn is_local(symbol: &Symbol) -> bool
 
 /// The symbol is local, or it is one of the others.
 pub(crate) fn is_chosen(symbol: &Symbol, local: bool) -> bool
-    ensures { result ≡ is_chosen local symbol.now }
+    ensures { result ≡ is_chosen_symbol local symbol.now }
 {
     if local {
         is_local(symbol)
@@ -33,7 +33,7 @@ pub(crate) fn is_chosen(symbol: &Symbol, local: bool) -> bool
 
 /// How many symbols are local.
 pub(crate) fn local_count(symbols: &[Symbol]) -> usize
-    ensures { result ≡ count_by is_local symbols.now }
+    ensures { result ≡ count_by is_local_symbol symbols.now }
 {
     symbols.iter().filter(|symbol| is_local(symbol)).count()
 }
@@ -42,30 +42,30 @@ pub(crate) fn local_count(symbols: &[Symbol]) -> usize
 /// the answer is the place behind them.
 pub(crate) fn push_symbol_rows(
     out: &mut Vec<u8>,
-    symbols: &[Symbol],
+    object: &Object,
     local: bool,
     place: u32,
 ) -> Result<u32, AllocError>
-    requires fits { FitRows symbols.now }
-    requires names { place + names_size (chosen local symbols.now) < 2 ^ 32 }
-    ensures rows { OnOk result (out.new.items ≡ out.old.items ++ flat_map symbol_row_bytes (symbol_rows_from place (chosen local symbols.now))) }
-    ensures place { IfOk result (λ end. end ≡ place + names_size (chosen local symbols.now)) }
-    ensures sizes { OnOk result (FitSizes local symbols.now) }
+    requires fits { FitRows (object.now).symbols }
+    requires names { place + names_size (chosen local (object.now).symbols) < 2 ^ 32 }
+    ensures rows { OnOk result (out.new.items ≡ out.old.items ++ flat_map symbol_row_bytes (symbol_rows_from place (chosen local (object.now).symbols))) }
+    ensures place { IfOk result (λ end. end ≡ place + names_size (chosen local (object.now).symbols)) }
+    ensures sizes { OnOk result (FitSizes local (object.now).symbols) }
 {
     let mut name = place;
-    for symbol in symbols {
+    for (number, symbol) in object.symbols().iter().enumerate() {
         if !is_chosen(symbol, local) {
             continue;
         }
         push_symbol_row(out, symbol, name)?;
-        name += symbol.name.as_slice().len() as u32 + 1;
+        name += object.symbol_name(SymbolId::from_number(number)).len() as u32 + 1;
     }
     Ok(name)
 }
 
 fn push_symbol_row(out: &mut Vec<u8>, symbol: &Symbol, name: u32) -> Result<(), AllocError>
-    requires { FitsRow symbol.now }
-    ensures row { OnOk result (out.new.items ≡ out.old.items ++ symbol_row_bytes (symbol_row_with name (elf_symbol symbol.now))) }
+    requires { FitsRow (named [] symbol.now) }
+    ensures row { OnOk result (out.new.items ≡ out.old.items ++ symbol_row_bytes (symbol_row_with name (elf_symbol (named [] symbol.now)))) }
     ensures size { (symbol.now).size < 2 ^ 64 }
 {
     push_fields(
@@ -117,7 +117,7 @@ fn symbol_type(symbol: &Symbol) -> u8
 
 /// STV_DEFAULT 0 or STV_HIDDEN 2.
 fn other(symbol: &Symbol) -> u8
-    ensures { result ≡ elf_other (symbol.now).scope (is_local symbol.now) (symbol.now).weak }
+    ensures { result ≡ elf_other (symbol.now).scope (is_local_symbol symbol.now) (symbol.now).weak }
 {
     match symbol.scope {
         SymbolScope::Linkage => {
@@ -145,8 +145,8 @@ fn section_row(symbol: &Symbol) -> u16
 
 /// The offset in its section, in bytes, 0 where it has none.
 fn value(symbol: &Symbol) -> u64
-    requires { (elf_symbol symbol.now).value < 2 ^ 64 }
-    ensures { result ≡ (elf_symbol symbol.now).value }
+    requires { (elf_symbol (named [] symbol.now)).value < 2 ^ 64 }
+    ensures { result ≡ (elf_symbol (named [] symbol.now)).value }
 {
     if is_in_section(symbol) {
         symbol.value as u64
