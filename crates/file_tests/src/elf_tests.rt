@@ -5,7 +5,7 @@ ghost use Rattle.file_tests.specs.SmallObjects.{file_object, main_object};
 
 use ir_core::{Architecture, BinaryFormat};
 use object_core::{
-    Object, StandardSection, Symbol, SymbolKind, SymbolName, SymbolScope, SymbolSection,
+    Object, StandardSection, Symbol, SymbolKind, SymbolScope, SymbolSection,
 };
 use object_elf::emit_elf;
 use std::alloc::{AllocError, Global};
@@ -26,9 +26,7 @@ fn main_object(alloc: Global) -> Result<Object, AllocError>
 {
     let mut object = file_object(alloc)?;
     let text = object.section_id(StandardSection::Text)?;
-    let name = SymbolName::from_slice(alloc, b"main")?;
-    let main = object.add_symbol(Symbol {
-        name,
+    let symbol = Symbol {
         value: 0,
         size: 0,
         kind: SymbolKind::Text,
@@ -36,7 +34,8 @@ fn main_object(alloc: Global) -> Result<Object, AllocError>
         weak: false,
         section: SymbolSection::Undefined,
         no_dead_strip: false,
-    })?;
+    };
+    let main = object.add_symbol(b"main", symbol)?;
     object.add_symbol_data(main, text, b"\xc3", 1)?;
     Ok(object)
 }
