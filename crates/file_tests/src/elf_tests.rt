@@ -4,9 +4,7 @@ ghost use Rattle.std.specs.Prelude.{◌≡◌, IfOk};
 ghost use Rattle.file_tests.specs.SmallObjects.{file_object, main_object};
 
 use ir_core::{Architecture, BinaryFormat};
-use object_core::{
-    Object, StandardSection, Symbol, SymbolKind, SymbolScope, SymbolSection,
-};
+use object_core::{Object, StandardSection, Symbol, SymbolKind, SymbolScope, SymbolSection};
 use object_elf::emit_elf;
 use std::alloc::{AllocError, Global};
 use std::test::Fail;

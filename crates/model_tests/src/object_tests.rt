@@ -289,10 +289,7 @@ fn a_section_of_any_name_is_appended(rt: HostRuntime) -> Result<(), Fail> {
     Ok(())
 }
 
-fn write_into_symbols(
-    rt: &impl Abort,
-    object: &mut Object,
-) -> Result<(), AllocError> {
+fn write_into_symbols(rt: &impl Abort, object: &mut Object) -> Result<(), AllocError> {
     let f = symbol(object, b"f")?;
     let g = symbol(object, b"g")?;
     assert!(rt; f.as_number() < object.symbols().len());
@@ -389,7 +386,10 @@ fn a_thousand_texts_are_kept_and_found_apart(rt: HostRuntime) -> Result<(), Fail
     let mut object = Object::new(rt.alloc(), BinaryFormat::Elf, Architecture::X86_64, 0);
     name_apart(&mut object)?;
     assert_eq!(rt; object.name_bytes(), 2000);
-    assert_eq!(rt; object.symbol_id(b"\xe7\x03"), Some(SymbolId::from_number(999)));
+    assert_eq!(rt;
+        object.symbol_id(b"\xe7\x03"),
+        Some(SymbolId::from_number(999))
+    );
     assert_eq!(rt; object.symbol_id(b"\xe8\x03"), None);
     let last = SectionId::from_number(999);
     assert!(rt; last.as_number() < object.sections().len());
@@ -399,6 +399,7 @@ fn a_thousand_texts_are_kept_and_found_apart(rt: HostRuntime) -> Result<(), Fail
 
 // Two texts of one FNV-1a number of 64 bits, by a published collision.
 const FIRST: &[u8] = b"8yn0iYCKYHlIj4-BwPqk";
+
 const SECOND: &[u8] = b"GReLUrM4wMqfg9yzV3KQ";
 
 fn name_by_one_number(rt: &impl Abort, object: &mut Object) -> Result<(), AllocError> {

@@ -74,6 +74,7 @@ pub(crate) fn has_relocations(section: &Section) -> bool
 }
 
 /// The bytes of the string section of the symbols.
+#[tactic(auto, using(crate::proofs::NameSizes::symbols_more))]
 pub(crate) fn symbol_names_size(object: &Object) -> u128
     requires { length (object.now).symbols < 2 ^ 32 }
     ensures value { result ≡ 1 + sum_by symbol_name_size (object.now).symbols }
@@ -87,6 +88,7 @@ pub(crate) fn symbol_names_size(object: &Object) -> u128
 }
 
 /// The bytes of the string section of the sections.
+#[tactic(auto, using(crate::proofs::NameSizes::sections_more))]
 pub(crate) fn section_names_size(object: &Object) -> u128
     requires { length (object.now).sections < 65280 }
     ensures value { result ≡ 43 + sum_by section_name_size (object.now).sections }
