@@ -1,12 +1,11 @@
 -- The symbols that relocations add, one after the other.
-use Rattle.std.proofs.Common.{◌≡◌, ℕ, zero, suc, ◌+◌, ◌<◌, ◌≤◌, ◌++◌, ◌∷◌, List, [], length, map, take, get_or, Some, refl, ap, sym, ◌∙◌, subst, arith, append_assoc, length-append}
+use Rattle.std.proofs.Common.{◌≡◌, ℕ, zero, suc, ◌+◌, ◌<◌, ◌≤◌, ◌++◌, ◌∷◌, List, [], length, map, take, get_or, Some, ap, sym, ◌∙◌, subst, arith, append_assoc}
 use Rattle.std.specs.Prelude.{slice_get, option_map}
 use Rattle.std.proofs.lemmas.List.{append-nil, map-append, take_more, take_all}
 use Rattle.std.proofs.lemmas.List.Elements.{All-get_or}
 use Rattle.std.specs.List.{All}
-use Rattle.std.proofs.lemmas.Option.{slice_get-map, slice_get_within}
-use Rattle.object_core.specs.declared.symbol.Symbol.{Symbol}
-use Rattle.object_core.specs.Object.{ObjectData}
+use Rattle.std.proofs.lemmas.Option.{slice_get-map}
+use Rattle.object_core.specs.Object.{SymbolData, ObjectData}
 use Rattle.object_core.specs.Appending.{file_symbol, with_symbol}
 use Rattle.cranelift_module.specs.declared.identifiers.FuncOrDataId.{FuncOrDataId}
 use Rattle.cranelift_module.specs.declared.identifiers.FuncOrDataId.TheVariants.{Func, Data}
@@ -33,15 +32,15 @@ numbered_length f d last_f last_d (Func k ∷ ids) h = let rest = numbered_lengt
 numbered_length f d last_f last_d (Data k ∷ ids) h = let rest = numbered_length f (d + 1) last_f last_d ids h.1 in omega (arith, rest)
 
 pub added_none : (settings : Settings) (s : LinkState) (o : ObjectData) → o ≡ with_added settings s o []
-added_none settings s o = ap (λ (ts : List Symbol). record o { symbols = ts }) (sym (append-nil o.symbols))
+added_none settings s o = ap (λ (ts : List SymbolData). record o { symbols = ts }) (sym (append-nil o.symbols))
 
 -- one more symbol
 pub added_next : (settings : Settings) (s : LinkState) (o now left : ObjectData) (es : List Extra) (i : ℕ) (e : Extra) → i < length es → e ≡ get_or es i e → now ≡ with_added settings s o (take i es) → left ≡ with_symbol now (extra_symbol (placed settings s) (extra_target settings e))
     → left ≡ with_added settings s o (take (i + 1) es)
 added_next settings s o now left es i e below at before ends =
-    let f : Extra → Symbol = λ x. extra_symbol (placed settings s) (extra_target settings x) in
+    let f : Extra → SymbolData = λ x. extra_symbol (placed settings s) (extra_target settings x) in
     let front : map f (take (i + 1) es) ≡ map f (take i es) ++ f e ∷ [] = ap (map f) (take_more es i e below ∙ ap (λ y. take i es ++ y ∷ []) (sym at)) ∙ map-append f (take i es) (e ∷ []) in
-    ends ∙ ap (λ (x : ObjectData). with_symbol x (f e)) before ∙ ap (λ (ts : List Symbol). record o { symbols = ts }) (append_assoc o.symbols (map f (take i es)) (f e ∷ []) ∙ ap (λ (ts : List Symbol). o.symbols ++ ts) (sym front))
+    ends ∙ ap (λ (x : ObjectData). with_symbol x (f e)) before ∙ ap (λ (ts : List SymbolData). record o { symbols = ts }) (append_assoc o.symbols (map f (take i es)) (f e ∷ []) ∙ ap (λ (ts : List SymbolData). o.symbols ++ ts) (sym front))
 
 -- with all of them the object is that of the state
 pub added_all : (settings : Settings) (s : LinkState) (o now : ObjectData) (es : List Extra) (i : ℕ) → o ≡ partial settings s s.definitions → AreExtras settings s es → length es ≤ i → now ≡ with_added settings s o (take i es) → now ≡ object_of settings s
@@ -67,7 +66,7 @@ identifier_there o marks es id h declared =
     let created = created_at o marks id h declared in
     let number = symbol_place o marks created.0 id h created.1 in
     let there = slice_get-map (identifier_symbol o.state ps) o.state.created created.0 ∙ ap (option_map (identifier_symbol o.state ps)) created.1 in
-    let f : Extra → Symbol = λ x. extra_symbol ps (extra_target o.settings x) in
+    let f : Extra → SymbolData = λ x. extra_symbol ps (extra_target o.settings x) in
     ap (slice_get ((file_symbol o.settings.file_name ∷ map (identifier_symbol o.state ps) o.state.created) ++ map f es)) number
     ∙ get_front (map (identifier_symbol o.state ps) o.state.created) (map f es) created.0 (identifier_symbol o.state ps id) there
 

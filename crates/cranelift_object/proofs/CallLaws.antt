@@ -1,7 +1,7 @@
 -- Calls of a module, accepted and refused.
 use Rattle.std.proofs.Common.{◌≡◌, ℕ, ℤ, ◌<◌, ◌^◌, ◌++◌, ◌∷◌, ◌&&◌, not, List, [], Bool, true, false, cond, codes, length, Option, Some, None, refl, ap, sym, subst}
 use Rattle.std.specs.Prelude.{slice_get, IfSome, Ok, Err, unwrap_or, option_map, option_to_list, find, decimal}
-use Rattle.std.specs.List.{All, list_all}
+use Rattle.std.specs.List.{list_all}
 use Rattle.std.specs.Option.{option_or}
 use Rattle.std.proofs.lemmas.Option.{slice_get_within}
 use Rattle.ir_core.specs.Signature.{SignatureData}

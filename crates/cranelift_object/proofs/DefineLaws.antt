@@ -21,9 +21,8 @@ use Rattle.object_core.specs.declared.kinds.SectionKind.{SectionKind}
 use Rattle.object_core.specs.declared.kinds.SectionKind.TheVariants as kind
 use Rattle.object_core.specs.Standard.{is_zero_fill, takes_no_bytes, standard_kind}
 use Rattle.object_core.specs.Places.{end_of}
-use Rattle.object_core.specs.declared.symbol.Symbol.{Symbol}
 use Rattle.object_core.specs.declared.kinds.SymbolSection.TheVariants.{Undefined}
-use Rattle.object_core.specs.Object.{ObjectData}
+use Rattle.object_core.specs.Object.{SymbolData, ObjectData}
 use Rattle.object_core.specs.Appending.{with_symbol, file_symbol, IsUndefined, is_unstored, next_offset, room_in}
 use Rattle.cranelift_module.specs.declared.identifiers.FuncOrDataId.{FuncOrDataId}
 use Rattle.cranelift_module.specs.declared.identifiers.FuncOrDataId.TheVariants.{Func, Data}
@@ -198,17 +197,17 @@ definition_step o marks j d h at =
 
 -- -- what the calls of an object ask for
 
-undefined_function : (s : LinkState) (ps : List Placed) (k : ℕ) → k < length s.functions → defined_at ps (Func k) ≡ None → option_map (λ (t : Symbol). t.section) (Some (identifier_symbol s ps (Func k))) ≡ Some Undefined
+undefined_function : (s : LinkState) (ps : List Placed) (k : ℕ) → k < length s.functions → defined_at ps (Func k) ≡ None → option_map (λ (t : SymbolData). t.section) (Some (identifier_symbol s ps (Func k))) ≡ Some Undefined
 undefined_function s ps k below none =
     let row = row_at s.functions k below in
     ap (λ (r : Option FunctionRow). Some (function_symbol ps k r).section) row.1 ∙ ap (λ (p : Option Placed). Some (linked.symbol_place p)) none
 
-undefined_data : (s : LinkState) (ps : List Placed) (k : ℕ) → k < length s.objects → defined_at ps (Data k) ≡ None → option_map (λ (t : Symbol). t.section) (Some (identifier_symbol s ps (Data k))) ≡ Some Undefined
+undefined_data : (s : LinkState) (ps : List Placed) (k : ℕ) → k < length s.objects → defined_at ps (Data k) ≡ None → option_map (λ (t : SymbolData). t.section) (Some (identifier_symbol s ps (Data k))) ≡ Some Undefined
 undefined_data s ps k below none =
     let row = row_at s.objects k below in
     ap (λ (r : Option DataRow). Some (data_symbol ps k r).section) row.1 ∙ ap (λ (p : Option Placed). Some (linked.symbol_place p)) none
 
-undefined_identifier : (s : LinkState) (ps : List Placed) (id : FuncOrDataId) → IsDeclared (length s.functions) (length s.objects) id → defined_at ps id ≡ None → option_map (λ (t : Symbol). t.section) (Some (identifier_symbol s ps id)) ≡ Some Undefined
+undefined_identifier : (s : LinkState) (ps : List Placed) (id : FuncOrDataId) → IsDeclared (length s.functions) (length s.objects) id → defined_at ps id ≡ None → option_map (λ (t : SymbolData). t.section) (Some (identifier_symbol s ps id)) ≡ Some Undefined
 undefined_identifier s ps (Func k) declared none = undefined_function s ps k declared none
 undefined_identifier s ps (Data k) declared none = undefined_data s ps k declared none
 
@@ -220,7 +219,7 @@ opened_undefined o marks j d h at =
     let body = body_at o marks j d h at in
     let created = created_at o marks d.identifier h body.declared in
     let there = slice_get-map (identifier_symbol o.state ps) o.state.created created.0 ∙ ap (option_map (identifier_symbol o.state ps)) created.1 in
-    rw (symbol_place o marks created.0 d.identifier h created.1) (ap (option_map (λ (t : Symbol). t.section)) there ∙ undefined_identifier o.state ps d.identifier body.declared (undefined_before o marks j d h at))
+    rw (symbol_place o marks created.0 d.identifier h created.1) (ap (option_map (λ (t : SymbolData). t.section)) there ∙ undefined_identifier o.state ps d.identifier body.declared (undefined_before o marks j d h at))
 
 -- its section takes bytes or none, as its contents do
 pub opened_stored : (o : OpenModule) (marks : Marks) (j : ℕ) (d : Definition) → IsModule o marks → slice_get o.state.definitions j ≡ Some d
@@ -415,7 +414,7 @@ symbol_in_data_row s rows i k row e below same =
 pub with_symbols_more : (o : OpenModule) (k : ℕ) (id : FuncOrDataId) (object later : ObjectData) → slice_get o.state.created k ≡ Some id → object ≡ with_symbols o k → later ≡ with_symbol object (identifier_symbol o.state [] id) → later ≡ with_symbols o (k + 1)
 with_symbols_more o k id object later at e f =
     let more = ap (map (identifier_symbol o.state [])) (front_more o.state.created k id at) ∙ map-append (identifier_symbol o.state []) (take k o.state.created) (id ∷ []) in
-    f ∙ ap (λ (x : ObjectData). with_symbol x (identifier_symbol o.state [] id)) e ∙ ap (λ (ts : List Symbol). record (begun_object o.settings o.state) { symbols = file_symbol o.settings.file_name ∷ ts }) (sym more)
+    f ∙ ap (λ (x : ObjectData). with_symbol x (identifier_symbol o.state [] id)) e ∙ ap (λ (ts : List SymbolData). record (begun_object o.settings o.state) { symbols = file_symbol o.settings.file_name ∷ ts }) (sym more)
 
 pub with_symbols_all : (o : OpenModule) (n : ℕ) → length o.state.created ≤ n → with_symbols o n ≡ partial o.settings o.state []
 unfolding partial sections_used moments

@@ -1,5 +1,5 @@
 -- The object of a module can be written.
-use Rattle.std.proofs.Common.{◌≡◌, ℕ, zero, suc, ◌+◌, ◌%◌, ◌/◌, ◌==◌, ◌||◌, ◌&&◌, not, ◌^◌, ◌<◌, ◌≤◌, ◌++◌, ◌∷◌, List, [], Bool, true, false, cond, length, map, Option, Some, None, refl, ap, sym, ◌∙◌, subst, arith, inl, inr, codes}
+use Rattle.std.proofs.Common.{◌≡◌, ℕ, zero, suc, ◌+◌, ◌%◌, ◌/◌, ◌==◌, ◌||◌, not, ◌^◌, ◌<◌, ◌≤◌, ◌++◌, ◌∷◌, List, [], Bool, true, false, cond, length, map, Option, Some, None, refl, ap, sym, ◌∙◌, subst, arith, inl, inr, codes}
 use Rattle.std.proofs.lemmas.Bool.{ltb-false}
 use Rattle.std.proofs.lemmas.Bool.Decides.{eqb_tells}
 use Rattle.std.proofs.lemmas.List.{length-map}
@@ -17,25 +17,24 @@ use Rattle.cranelift_module.specs.declared.reloc.ModuleReloc.{ModuleReloc}
 use Rattle.ir_core.specs.declared.reloc.KnownSymbol.{KnownSymbol}
 use Rattle.ir_core.specs.declared.reloc.KnownSymbol.TheVariants.{ElfGlobalOffsetTable, CoffTlsIndex}
 use Rattle.cranelift_module.specs.Call.{Contents, bytes, zeros}
-use Rattle.cranelift_module.specs.Refusal.{Refusal, function_name, data_name, zero_byte, backend, undeclared, refuse_if, has_kind, is_outside, bytes_in, reloc_cause, bad_reloc_from, is_same_identifier}
+use Rattle.cranelift_module.specs.Refusal.{Refusal, function_name, data_name, zero_byte, backend, refuse_if, has_kind, is_outside, bytes_in, reloc_cause, bad_reloc_from, is_same_identifier}
 use Rattle.cranelift_module.specs.Definitions.{Definition, size_of}
 use Rattle.cranelift_module.specs.LinkState.{LinkState}
 use Rattle.cranelift_module.specs.Rows.{FunctionRow, DataRow}
 use Rattle.cranelift_module.specs.declared.linkage.Linkage.{Linkage}
 use Rattle.cranelift_module.specs.declared.identifiers.FuncOrDataId.{FuncOrDataId}
 use Rattle.cranelift_module.specs.declared.identifiers.FuncOrDataId.TheVariants.{Func, Data}
-use Rattle.object_core.specs.declared.symbol.Symbol.{Symbol}
 use Rattle.object_core.specs.declared.relocation.Relocation.{Relocation}
 use Rattle.object_core.specs.declared.kinds.SymbolKind.TheVariants as kind
 use Rattle.object_core.specs.declared.kinds.StandardSection.{StandardSection}
 use Rattle.object_core.specs.declared.kinds.StandardSection.TheVariants.{Text, Data as DataSection, ReadOnlyData, ReadOnlyDataWithRel, UninitializedData, Tls, UninitializedTls}
-use Rattle.object_core.specs.Object.{SectionData, ObjectData}
+use Rattle.object_core.specs.Object.{SymbolData, SectionData, ObjectData}
 use Rattle.object_core.specs.Places.{end_of, joined}
 use Rattle.object_core.specs.Appending.{file_symbol}
 use Rattle.object_core.specs.WellFormed.{IsFormedElf, IsFormedSymbol, IsFormedRelocation, has_zero_byte, is_file}
 use Rattle.cranelift_object.specs.Settings.{Settings}
 use Rattle.cranelift_object.specs.Opened.{OpenModule}
-use Rattle.cranelift_object.specs.Kept.{IsModule, IsBody, IsDeclared, IsName, Marks}
+use Rattle.cranelift_object.specs.Kept.{IsModule, IsBody, IsName, Marks}
 use Rattle.cranelift_object.specs.SectionClass.{Class, section_class, class_by_text, standard_class, standard_section, has_own_section, is_counted, are_counted}
 use Rattle.cranelift_object.specs.Placing.{Placed, placed, sections_used, room_of, extent_of, standing_in}
 use Rattle.cranelift_object.specs.Partial.{placed_of, partial, sections_from}
@@ -168,7 +167,7 @@ formed_one : (o : OpenModule) (marks : Marks) (object : ObjectData) (ps : List P
 formed_one o marks object ps i (Func k) h within at = formed_function object o.state ps k h.names within (created_function o marks i k h at)
 formed_one o marks object ps i (Data k) h within at = formed_object object o.state ps k h.object_names within (created_data o marks i k h at)
 
-formed_identifier : (o : OpenModule) (marks : Marks) (object : ObjectData) (ps : List Placed) (i : ℕ) (t : Symbol) → IsModule o marks → All (IsWithin object) ps → slice_get (map (identifier_symbol o.state ps) o.state.created) i ≡ Some t → IsFormedSymbol object t
+formed_identifier : (o : OpenModule) (marks : Marks) (object : ObjectData) (ps : List Placed) (i : ℕ) (t : SymbolData) → IsModule o marks → All (IsWithin object) ps → slice_get (map (identifier_symbol o.state ps) o.state.created) i ≡ Some t → IsFormedSymbol object t
 formed_identifier o marks object ps i t h within at =
     let long = length-map o.state.created (identifier_symbol o.state ps) in
     let inside = slice_get_within (map (identifier_symbol o.state ps) o.state.created) i t at in
@@ -178,7 +177,7 @@ formed_identifier o marks object ps i t h within at =
     let same : identifier_symbol o.state ps id.0 ≡ t = cc in
     subst (IsFormedSymbol object) same (formed_one o marks object ps i id.0 h within id.1)
 
-formed_at : (o : OpenModule) (marks : Marks) (object : ObjectData) (ps : List Placed) (k : ℕ) (t : Symbol) → IsModule o marks → All (IsWithin object) ps → slice_get (file_symbol o.settings.file_name ∷ map (identifier_symbol o.state ps) o.state.created) k ≡ Some t → IsFormedSymbol object t
+formed_at : (o : OpenModule) (marks : Marks) (object : ObjectData) (ps : List Placed) (k : ℕ) (t : SymbolData) → IsModule o marks → All (IsWithin object) ps → slice_get (file_symbol o.settings.file_name ∷ map (identifier_symbol o.state ps) o.state.created) k ≡ Some t → IsFormedSymbol object t
 formed_at o marks object ps zero t h within at =
     let same : file_symbol o.settings.file_name ≡ t = cc in
     let file : IsFormedSymbol object (file_symbol o.settings.file_name) = record { name = no_zero o.settings.file_name h.begun.file_name; place = tt; value = omega arith } in
@@ -288,12 +287,12 @@ some_same x y h = cc
 abbrev whole : OpenModule → List Extra → ObjectData
 whole o es = with_added o.settings o.state (partial o.settings o.state o.state.definitions) es
 
-formed_added : (o : OpenModule) (marks : Marks) (es : List Extra) (j : ℕ) (t : Symbol) → IsModule o marks → AreExtras o.settings o.state es → first_bad_reference o.state ≡ None
+formed_added : (o : OpenModule) (marks : Marks) (es : List Extra) (j : ℕ) (t : SymbolData) → IsModule o marks → AreExtras o.settings o.state es → first_bad_reference o.state ≡ None
     → slice_get (map (λ (e : Extra). extra_symbol (placed_of o.settings o.state o.state.definitions) (extra_target o.settings e)) es) j ≡ Some t → IsFormedSymbol (whole o es) t
 unfolding partial placed
 formed_added o marks es j t h are none at =
     let ps : List Placed = placed_of o.settings o.state o.state.definitions in
-    let f : Extra → Symbol = λ e. extra_symbol ps (extra_target o.settings e) in
+    let f : Extra → SymbolData = λ e. extra_symbol ps (extra_target o.settings e) in
     let inside = slice_get_within (map f es) j t at in
     let long = length-map es f in
     let e = row_at es j (omega (arith, long, inside)) in
@@ -303,11 +302,11 @@ formed_added o marks es j t h are none at =
     let had = All-slice_get (λ (x : Extra). IsHad o.state (extra_target o.settings x)) es j e.0 (extras_had o.settings o.state es are none) e.1 in
     subst (IsFormedSymbol (whole o es)) same (formed_extra (whole o es) o.settings o.state ps e.0 h.begun.library_names (placed_within o marks h) (placed_definitions o.settings o.state o.state.definitions) faithful had)
 
-formed_symbols : (o : OpenModule) (marks : Marks) (es : List Extra) → IsModule o marks → AreExtras o.settings o.state es → first_bad_reference o.state ≡ None → (k : ℕ) (t : Symbol) → slice_get (whole o es).symbols k ≡ Some t → IsFormedSymbol (whole o es) t
+formed_symbols : (o : OpenModule) (marks : Marks) (es : List Extra) → IsModule o marks → AreExtras o.settings o.state es → first_bad_reference o.state ≡ None → (k : ℕ) (t : SymbolData) → slice_get (whole o es).symbols k ≡ Some t → IsFormedSymbol (whole o es) t
 unfolding partial placed
 formed_symbols o marks es h are none k t at =
     let ps : List Placed = placed_of o.settings o.state o.state.definitions in
-    let front : List Symbol = file_symbol o.settings.file_name ∷ map (identifier_symbol o.state ps) o.state.created in
+    let front : List SymbolData = file_symbol o.settings.file_name ∷ map (identifier_symbol o.state ps) o.state.created in
     elim (get_append front (map (λ (e : Extra). extra_symbol ps (extra_target o.settings e)) es) k t at)
     [ inl first ↦ formed_at o marks (whole o es) ps k t h (placed_within o marks h) first | inr behind ↦ formed_added o marks es behind.0 t h are none behind.2 ]
 
@@ -382,16 +381,16 @@ extra_no_file ps (label function offset) = refl
 
 -- the symbol that is added for a target
 added_there : (o : OpenModule) (es : List Extra) (t : RelocationTarget) (n : ℕ) → list_any (is_same_target t) (map (extra_target o.settings) es) ≡ true → n ≡ 1 + length o.state.created + position_or_len (is_same_target t) (map (extra_target o.settings) es)
-    → (x : Symbol) × (slice_get (whole o es).symbols n ≡ Some x) × (is_file x.kind ≡ false)
+    → (x : SymbolData) × (slice_get (whole o es).symbols n ≡ Some x) × (is_file x.kind ≡ false)
 unfolding partial placed
 added_there o es t n among row =
     let ps : List Placed = placed_of o.settings o.state o.state.definitions in
-    let front : List Symbol = file_symbol o.settings.file_name ∷ map (identifier_symbol o.state ps) o.state.created in
+    let front : List SymbolData = file_symbol o.settings.file_name ∷ map (identifier_symbol o.state ps) o.state.created in
     let p : ℕ = position_or_len (is_same_target t) (map (extra_target o.settings) es) in
     let found = found_place (is_same_target t) (map (extra_target o.settings) es) among in
     let long = length-map o.state.created (identifier_symbol o.state ps) in
     let behind = get_behind front (map (λ (e : Extra). extra_symbol ps (extra_target o.settings e)) es) n p (omega (arith, row, long)) in
-    let there = ap (λ (xs : List Symbol). slice_get xs p) (sym (map_twice (extra_symbol ps) (extra_target o.settings) es)) ∙ slice_get-map (extra_symbol ps) (map (extra_target o.settings) es) p ∙ ap (option_map (extra_symbol ps)) found.1 in
+    let there = ap (λ (xs : List SymbolData). slice_get xs p) (sym (map_twice (extra_symbol ps) (extra_target o.settings) es)) ∙ slice_get-map (extra_symbol ps) (map (extra_target o.settings) es) p ∙ ap (option_map (extra_symbol ps)) found.1 in
     (extra_symbol ps found.0, behind ∙ there, extra_no_file ps found.0)
 
 target_row : (o : OpenModule) (es : List Extra) (t : RelocationTarget) → AreExtras o.settings o.state es → is_extra t ≡ true → row_of o.settings o.state t ≡ 1 + length o.state.created + position_or_len (is_same_target t) (map (extra_target o.settings) es)
@@ -403,7 +402,7 @@ target_row o es (label function offset) are h = ap (λ (ts : List RelocationTarg
 
 -- the symbol of a target that is reached is one of the object, and no file
 formed_target : (o : OpenModule) (marks : Marks) (es : List Extra) (t : RelocationTarget) → IsModule o marks → AreExtras o.settings o.state es → IsReached o.settings o.state es t
-    → (x : Symbol) × (slice_get (whole o es).symbols (row_of o.settings o.state t) ≡ Some x) × (is_file x.kind ≡ false)
+    → (x : SymbolData) × (slice_get (whole o es).symbols (row_of o.settings o.state t) ≡ Some x) × (is_file x.kind ≡ false)
 formed_target o marks es (identifier id) h are reached =
     (identifier_symbol o.state (placed o.settings o.state) id, identifier_there o marks es id h reached.0, identifier_no_file o.state (placed o.settings o.state) id)
 formed_target o marks es (library text) h are reached = added_there o es (library text) _ (reached.1 refl) (target_row o es (library text) are refl)

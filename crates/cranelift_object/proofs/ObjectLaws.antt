@@ -6,8 +6,7 @@ use Rattle.std.proofs.lemmas.List.Elements.{All-map}
 use Rattle.std.specs.Prelude.{slice_get, option_map, unwrap_or}
 use Rattle.std.specs.List.{All}
 use Rattle.std.specs.Int.{next_multiple_of}
-use Rattle.object_core.specs.declared.symbol.Symbol.{Symbol}
-use Rattle.object_core.specs.Object.{SectionData, ObjectData}
+use Rattle.object_core.specs.Object.{SymbolData, SectionData, ObjectData}
 use Rattle.object_core.specs.Places.{end_of}
 use Rattle.object_core.specs.Appending.{changed_at, next_offset, offset_in, defined_symbol, file_symbol}
 use Rattle.cranelift_module.specs.declared.identifiers.FuncOrDataId.{FuncOrDataId}
@@ -49,7 +48,7 @@ symbols_whole : (settings : Settings) (s : LinkState) (ps : List Placed) (es : L
     → (file_symbol settings.file_name ∷ map (identifier_symbol s ps) s.created) ++ map (λ (e : Extra). extra_symbol ps (extra_target settings e)) es ≡ symbols_of settings s ps
 unfolding symbols_of extras
 symbols_whole settings s ps es h =
-    ap (λ (ts : List Symbol). (file_symbol settings.file_name ∷ map (identifier_symbol s ps) s.created) ++ ts) (sym (map_twice (extra_symbol ps) (extra_target settings) es) ∙ ap (map (extra_symbol ps)) h.found)
+    ap (λ (ts : List SymbolData). (file_symbol settings.file_name ∷ map (identifier_symbol s ps) s.created) ++ ts) (sym (map_twice (extra_symbol ps) (extra_target settings) es) ∙ ap (map (extra_symbol ps)) h.found)
 
 -- with all its definitions, and the symbols of what relocations add, it is the object of the state
 pub partial_whole : (settings : Settings) (s : LinkState) (es : List Extra) → AreExtras settings s es → with_added settings s (partial settings s s.definitions) es ≡ object_of settings s
@@ -66,7 +65,7 @@ section_at settings s ps (d ∷ classes) i j zero c at e =
     rw (same, here) refl
 section_at settings s ps (d ∷ classes) i j (suc k) c at e = section_at settings s ps classes (i + 1) j k c at (omega arith)
 
-same_object : (o : ObjectData) (a b : List SectionData) (c e : List Symbol) (m n : ℕ) → a ≡ b → c ≡ e → m ≡ n → record o { sections = a; symbols = c; content_sum = m } ≡ record o { sections = b; symbols = e; content_sum = n }
+same_object : (o : ObjectData) (a b : List SectionData) (c e : List SymbolData) (m n : ℕ) → a ≡ b → c ≡ e → m ≡ n → record o { sections = a; symbols = c; content_sum = m } ≡ record o { sections = b; symbols = e; content_sum = n }
 same_object o a b c e m n p q r = rw (p, q, r) refl
 
 -- the section of one more definition is there, and is of its class
@@ -120,7 +119,7 @@ partial-end b settings s ds d r all here kind declared undefined at apart =
     let offset = sym (offset_there settings s ds d all here) in
     let symbols =
     ap (λ (qs : List Placed). file_symbol settings.file_name ∷ map (identifier_symbol s qs) s.created) (placed_of-end settings s ds d)
-    ∙ ap (λ (ts : List Symbol). file_symbol settings.file_name ∷ ts) (identifiers_changed s ps p d.identifier r declared refl undefined at apart)
+    ∙ ap (λ (ts : List SymbolData). file_symbol settings.file_name ∷ ts) (identifiers_changed s ps p d.identifier r declared refl undefined at apart)
     ∙ ap (λ (place : ℕ). file_symbol settings.file_name ∷ changed_at r (defined_symbol n place (size_of d.contents)) (map (identifier_symbol s ps) s.created)) offset
     in
     let sum = sum_by_push (λ (x : Definition). room_of s x + align_of s x) ds d in

@@ -4,7 +4,7 @@ use Rattle.std.proofs.lemmas.List.Folds.{find-append}
 use Rattle.std.specs.Prelude.{slice_get}
 use Rattle.std.specs.Option.{option_or}
 use Rattle.object_core.specs.declared.kinds.SymbolKind.TheVariants as kind
-use Rattle.object_core.specs.declared.symbol.Symbol.{Symbol}
+use Rattle.object_core.specs.Object.{SymbolData}
 use Rattle.object_core.specs.Appending.{changed_at, defined_symbol}
 use Rattle.cranelift_module.specs.declared.identifiers.FuncOrDataId.{FuncOrDataId}
 use Rattle.cranelift_module.specs.declared.identifiers.FuncOrDataId.TheVariants.{Func, Data}
@@ -41,8 +41,8 @@ function_here : (s : LinkState) (ps : List Placed) (p : Placed) (k : ℕ) → k 
     → function_symbol (ps ++ p ∷ []) k (slice_get s.functions k) ≡ defined_symbol p.section p.offset (size_of p.definition.contents) (function_symbol ps k (slice_get s.functions k))
 function_here s ps p k below e none =
     let row = row_at s.functions k below in
-    let now : Option Placed → Symbol = named_symbol (function_name row.0 k) row.0.linkage kind.Text in
-    let change : Symbol → Symbol = defined_symbol p.section p.offset (size_of p.definition.contents) in
+    let now : Option Placed → SymbolData = named_symbol (function_name row.0 k) row.0.linkage kind.Text in
+    let change : SymbolData → SymbolData = defined_symbol p.section p.offset (size_of p.definition.contents) in
     let before : now (defined_at (ps ++ p ∷ []) (Func k)) ≡ now (Some p) = ap now (defined_here ps p (Func k) e none) in
     let after : now (Some p) ≡ change (now (defined_at ps (Func k))) = ap (λ (at : Option Placed). change (now at)) (sym none) in
     ap (function_symbol (ps ++ p ∷ []) k) row.1 ∙ before ∙ after ∙ ap (λ (r : Option FunctionRow). change (function_symbol ps k r)) (sym row.1)
@@ -51,8 +51,8 @@ data_here : (s : LinkState) (ps : List Placed) (p : Placed) (k : ℕ) → k < le
     → data_symbol (ps ++ p ∷ []) k (slice_get s.objects k) ≡ defined_symbol p.section p.offset (size_of p.definition.contents) (data_symbol ps k (slice_get s.objects k))
 data_here s ps p k below e none =
     let row = row_at s.objects k below in
-    let now : Option Placed → Symbol = named_symbol (data_name row.0 k) row.0.linkage (cond row.0.tls kind.Tls kind.Data) in
-    let change : Symbol → Symbol = defined_symbol p.section p.offset (size_of p.definition.contents) in
+    let now : Option Placed → SymbolData = named_symbol (data_name row.0 k) row.0.linkage (cond row.0.tls kind.Tls kind.Data) in
+    let change : SymbolData → SymbolData = defined_symbol p.section p.offset (size_of p.definition.contents) in
     let before : now (defined_at (ps ++ p ∷ []) (Data k)) ≡ now (Some p) = ap now (defined_here ps p (Data k) e none) in
     let after : now (Some p) ≡ change (now (defined_at ps (Data k))) = ap (λ (at : Option Placed). change (now at)) (sym none) in
     ap (data_symbol (ps ++ p ∷ []) k) row.1 ∙ before ∙ after ∙ ap (λ (r : Option DataRow). change (data_symbol ps k r)) (sym row.1)

@@ -1,5 +1,5 @@
 -- The targets of a module in which no relocation goes to what can't be had.
-use Rattle.std.proofs.Common.{◌≡◌, ℕ, ◌<◌, ◌==◌, ◌&&◌, ◌||◌, ◌++◌, ◌∷◌, List, [], Bool, true, false, not, cond, length, map, filter, Option, Some, None, refl, ap, sym, ◌∙◌, subst}
+use Rattle.std.proofs.Common.{◌≡◌, ℕ, ◌<◌, ◌==◌, ◌&&◌, ◌++◌, ◌∷◌, List, [], Bool, true, false, not, cond, length, map, filter, Option, Some, None, refl, ap, sym, ◌∙◌, subst}
 use Rattle.std.specs.Prelude.{slice_get, option_map, is_some, flat_map}
 use Rattle.std.specs.Option.{option_or}
 use Rattle.std.specs.List.{All, list_any, position_from}
@@ -17,7 +17,7 @@ use Rattle.cranelift_module.specs.declared.reloc.ModuleRelocTarget.TheVariants.{
 use Rattle.cranelift_module.specs.Rows.{FunctionRow}
 use Rattle.cranelift_module.specs.Definitions.{Definition}
 use Rattle.cranelift_module.specs.LinkState.{LinkState, is_function_named, is_data_named}
-use Rattle.cranelift_module.specs.Refusal.{Refusal, refuse_if, undeclared, missing_definition, function_name, is_defined}
+use Rattle.cranelift_module.specs.Refusal.{undeclared, missing_definition, function_name, is_defined}
 use Rattle.cranelift_module.specs.Texts.{user_text}
 use Rattle.cranelift_object.specs.Settings.{Settings, library_text}
 use Rattle.cranelift_object.specs.Kept.{IsDeclared}

@@ -1,5 +1,5 @@
 -- The texts of library calls.
-use Rattle.std.proofs.Common.{◌≡◌, ℕ, zero, suc, ◌+◌, ◌<◌, ◌≤◌, ◌||◌, ◌∷◌, List, [], Bool, true, false, cond, length, map, Some, None, refl, ap, sym, ◌∙◌, arith, bytes_eq, String, Global, string_bytes, not}
+use Rattle.std.proofs.Common.{◌≡◌, ℕ, zero, suc, ◌+◌, ◌<◌, ◌≤◌, ◌∷◌, List, [], Bool, true, false, cond, length, map, Some, None, refl, ap, sym, ◌∙◌, arith, bytes_eq, String, Global, string_bytes, not}
 use Rattle.std.specs.Prelude.{slice_get, unwrap_or, nat_lt}
 use Rattle.std.specs.List.{All, list_any, position_or_len, position_from}
 use Rattle.std.proofs.lemmas.Bool.{ltb-false}

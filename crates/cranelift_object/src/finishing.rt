@@ -1,6 +1,6 @@
 //! From a module to its object.
 
-ghost use Rattle.std.specs.Prelude.{◌≡◌, ℕ, ◌<◌, ◌^◌, ◌+◌, ◌++◌, [], true, false, length, map, take, slice_get, option_map, Some, None, IfOk, IfErr, OnOk};
+ghost use Rattle.std.specs.Prelude.{if◌then◌else◌, ◌≡◌, ℕ, ◌<◌, ◌^◌, ◌+◌, ◌++◌, [], true, false, length, map, take, slice_get, option_map, Some, None, IfOk, IfErr, OnOk};
 ghost use Rattle.std.specs.List.{All, list_any};
 ghost use Rattle.std.specs.Int.{is_power_of_two};
 ghost use Rattle.cranelift_module.specs.Refusal.{Tells, is_defined};
@@ -8,8 +8,9 @@ ghost use Rattle.cranelift_module.specs.declared.reloc.ModuleRelocTarget.TheVari
 ghost use Rattle.cranelift_object.specs.EndCause.{end_cause, first_missing_function, first_missing_data, first_bad_reference, first_bad_target, target_cause, is_declared, HasTarget, function_missing, data_missing};
 ghost use Rattle.cranelift_object.specs.Extras.{AreExtras};
 ghost use Rattle.cranelift_object.specs.SectionClass.{section_class, unused_class, has_own_section, standard_section, data_section, initialized_section, custom_kind, is_counted};
-ghost use Rattle.cranelift_object.specs.Linked.{object_of, identifier_symbol, function_symbol, data_symbol, scope_of, file_flags, turns_compression_off, object_relocation};
+ghost use Rattle.cranelift_object.specs.Linked.{object_of, identifier_symbol, linked_symbol, scope_of, file_flags, turns_compression_off, object_relocation};
 ghost use Rattle.ir_core.specs.declared.target.BinaryFormat.TheVariants.{Elf};
+ghost use Rattle.object_core.specs.declared.kinds.SymbolKind.TheVariants as SymbolKind;
 ghost use Rattle.object_core.specs.Appending.{with_symbol, IsUndefined, is_unstored, next_offset};
 ghost use Rattle.cranelift_module.specs.declared.identifiers.FuncOrDataId.TheVariants.{Func, Data};
 ghost use Rattle.cranelift_object.specs.Kept.{IsDeclared};
@@ -28,7 +29,7 @@ use cranelift_module::{
 use ir_core::{Architecture, Flag, TargetIsa, elf_number};
 use object_core::{
     Object, Relocation, RelocationFlags, SectionId, SectionKind, StandardSection, Symbol, SymbolId,
-    SymbolKind, SymbolName, SymbolScope, SymbolSection,
+    SymbolKind, SymbolScope, SymbolSection,
 };
 use std::alloc::{AllocError, Global};
 
@@ -275,8 +276,9 @@ impl ObjectModule {
         ensures row { IfOk result (λ row. row ≡ (length object.old.symbols, is_defined (self.now).state (Func id))) }
     {
         let function = self.declarations.get_function_decl(id);
-        let symbol = function_symbol(self.builder.alloc(), function, id)?;
-        let symbol = object.add_symbol(symbol)?;
+        let name = function.linkage_name(self.builder.alloc(), id)?;
+        let symbol = linked_symbol(function.linkage(), SymbolKind::Text);
+        let symbol = object.add_symbol(name.as_str().as_bytes(), symbol)?;
         Ok((symbol, self.is_defined(id)))
     }
 
@@ -287,8 +289,9 @@ impl ObjectModule {
         ensures row { IfOk result (λ row. row ≡ (length object.old.symbols, is_defined (self.now).state (Data id))) }
     {
         let data = self.declarations.get_data_decl(id);
-        let symbol = data_symbol(self.builder.alloc(), data, id)?;
-        let symbol = object.add_symbol(symbol)?;
+        let name = data.linkage_name(self.builder.alloc(), id)?;
+        let symbol = linked_symbol(data.linkage(), data_kind(data.tls()));
+        let symbol = object.add_symbol(name.as_str().as_bytes(), symbol)?;
         Ok((symbol, self.is_object_defined(id)))
     }
 
@@ -554,49 +557,30 @@ fn custom_kind(definition: &Definition) -> SectionKind
     }
 }
 
-// The symbol of a function before it is defined.
-fn function_symbol(
-    alloc: Global,
-    function: &FunctionDeclaration,
-    id: FuncId,
-) -> Result<Symbol, AllocError>
-    ensures { IfOk result (λ symbol. symbol ≡ function_symbol [] id (Some function.now)) }
+// The kind of the symbol of a data object.
+fn data_kind(tls: bool) -> SymbolKind
+    ensures { result ≡ (if tls then SymbolKind.Tls else SymbolKind.Data) }
 {
-    let name = function.linkage_name(alloc, id)?;
-    let name = SymbolName::from_slice(alloc, name.as_str().as_bytes())?;
-    Ok(Symbol {
-        name,
-        value: 0,
-        size: 0,
-        kind: SymbolKind::Text,
-        scope: scope_of(function.linkage()),
-        weak: matches!(function.linkage(), Linkage::Preemptible),
-        section: SymbolSection::Undefined,
-        no_dead_strip: false,
-    })
-}
-
-// The symbol of a data object before it is defined.
-fn data_symbol(alloc: Global, object: &DataDeclaration, id: DataId) -> Result<Symbol, AllocError>
-    ensures { IfOk result (λ symbol. symbol ≡ data_symbol [] id (Some object.now)) }
-{
-    let name = object.linkage_name(alloc, id)?;
-    let name = SymbolName::from_slice(alloc, name.as_str().as_bytes())?;
-    let kind = if object.tls() {
+    if tls {
         SymbolKind::Tls
     } else {
         SymbolKind::Data
-    };
-    Ok(Symbol {
-        name,
+    }
+}
+
+// The symbol of an identifier before it is defined.
+fn linked_symbol(linkage: Linkage, kind: SymbolKind) -> Symbol
+    ensures { result ≡ linked_symbol linkage kind None }
+{
+    Symbol {
         value: 0,
         size: 0,
         kind,
-        scope: scope_of(object.linkage()),
-        weak: matches!(object.linkage(), Linkage::Preemptible),
+        scope: scope_of(linkage),
+        weak: matches!(linkage, Linkage::Preemptible),
         section: SymbolSection::Undefined,
         no_dead_strip: false,
-    })
+    }
 }
 
 fn scope_of(linkage: Linkage) -> SymbolScope

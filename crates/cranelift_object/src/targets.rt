@@ -7,11 +7,11 @@ ghost use Rattle.cranelift_module.specs.declared.reloc.ModuleRelocTarget.TheVari
 ghost use Rattle.cranelift_object.specs.EndCause.{target_cause, first_bad_reference};
 ghost use Rattle.cranelift_object.specs.Extras.{resolved_target, extra_target, IsFaithful, IsFaithfulTarget, AreAdded, AreExtras, targets_in};
 ghost use Rattle.cranelift_object.specs.Kept.{IsDeclared};
-ghost use Rattle.cranelift_object.specs.Linked.{object_of, row_of, identifier_symbol, extra_symbol, known_symbol, undefined_symbol, label_symbol, defined_at};
+ghost use Rattle.cranelift_object.specs.Linked.{object_of, row_of, identifier_symbol, extra_symbol, known_symbol, outside_symbol, undefined_symbol, inner_symbol, label_symbol, defined_at};
 ghost use Rattle.cranelift_object.specs.Partial.{partial};
 ghost use Rattle.cranelift_object.specs.Placing.{placed};
 ghost use Rattle.cranelift_object.specs.Product.{AreMarks, symbol_number};
-ghost use Rattle.cranelift_object.specs.Adding.{HasIdentifiers, IsOfFunction, label_at};
+ghost use Rattle.cranelift_object.specs.Adding.{HasIdentifiers, IsOfFunction};
 ghost use Rattle.cranelift_object.specs.Targets.{RelocationTarget, target_of};
 ghost use Rattle.cranelift_object.specs.declared.extras.Extra.TheVariants.{Known, Label};
 ghost use Rattle.cranelift_object.specs.declared.extras.ResolvedTarget.TheVariants.{Identifier, Added};
@@ -22,8 +22,8 @@ use crate::extras::{Extra, Extras, ResolvedTarget};
 use crate::finishing::Symbols;
 use cranelift_module::{DataId, FuncId, FuncOrDataId, Module, ModuleReloc, ModuleRelocTarget};
 use ir_core::{KnownSymbol, LibCall};
-use object_core::{Object, Symbol, SymbolId, SymbolKind, SymbolName, SymbolScope, SymbolSection};
-use std::alloc::{AllocError, Global};
+use object_core::{Object, Symbol, SymbolId, SymbolKind, SymbolScope, SymbolSection};
+use std::alloc::AllocError;
 
 impl ObjectModule {
     // What a relocation goes to, over all declarations.
@@ -144,48 +144,36 @@ impl ObjectModule {
         requires function { IsOfFunction (self.now).state extra }
         ensures { OnOk result (object.new ≡ with_symbol object.old (extra_symbol (placed (self.now).settings (self.now).state) (extra_target (self.now).settings extra))) }
     {
-        let symbol = self.extra_symbol(object, symbols, extra)?;
-        object.add_symbol(symbol)?;
-        Ok(())
-    }
-
-    // The symbol of what a relocation adds.
-    fn extra_symbol(
-        &self,
-        object: &Object,
-        symbols: &Symbols,
-        extra: Extra,
-    ) -> Result<Symbol, AllocError>
-        requires symbols { AreMarks (self.now).state symbols.now.functions.items symbols.now.objects.items }
-        requires identifiers { HasIdentifiers (self.now).settings (self.now).state object.now }
-        requires function { IsOfFunction (self.now).state extra }
-        ensures { IfOk result (λ symbol. symbol ≡ extra_symbol (placed (self.now).settings (self.now).state) (extra_target (self.now).settings extra)) }
-    {
-        let alloc = self.builder.alloc();
         match extra {
             Extra::Library(place) => {
-                undefined_symbol(alloc, self.builder.text_at(place), 0, SymbolKind::Text)
+                add_outside(object, self.builder.text_at(place), 0, SymbolKind::Text)
             }
-            Extra::Known(symbol) => known_symbol(alloc, symbol),
-            Extra::Label(function, offset) => self.label(object, symbols, function, offset),
+            Extra::Known(symbol) => add_known(object, symbol),
+            Extra::Label(function, offset) => self.add_label(object, symbols, function, offset),
         }
     }
 
-    // The symbol of a place in a function.
-    fn label(
+    // Adds the symbol of a place in a function. A place of more than 128 bits wants more memory than there is.
+    fn add_label(
         &self,
-        object: &Object,
+        object: &mut Object,
         symbols: &Symbols,
         function: FuncId,
         offset: u32,
-    ) -> Result<Symbol, AllocError>
+    ) -> Result<(), AllocError>
         requires symbols { AreMarks (self.now).state symbols.now.functions.items symbols.now.objects.items }
-        requires identifiers { HasIdentifiers (self.now).settings (self.now).state object.now }
+        requires identifiers { HasIdentifiers (self.now).settings (self.now).state object.old }
         requires function { function < length (self.now).state.functions }
-        ensures { IfOk result (λ symbol. symbol ≡ label_symbol function offset (defined_at (placed (self.now).settings (self.now).state) (Func function))) }
+        ensures { OnOk result (object.new ≡ with_symbol object.old (label_symbol function offset (defined_at (placed (self.now).settings (self.now).state) (Func function)))) }
     {
         let function_symbol = object.symbol(self.symbol_of_function(symbols, function));
-        label_symbol(self.builder.alloc(), function, offset, function_symbol)
+        let section = function_symbol.section;
+        let value = function_symbol.value.checked_add(u128::from(offset));
+        let value = value.ok_or(AllocError)?;
+        let number = function.as_u32();
+        let name = format!(in self.builder.alloc(); ".L{number}_{offset}")?;
+        object.add_symbol(name.as_str().as_bytes(), inner_symbol(value, section))?;
+        Ok(())
     }
 }
 
@@ -215,17 +203,24 @@ fn resolved_label(function: FuncId, offset: u32) -> ResolvedTarget
     ResolvedTarget::Added(Extra::Label(function, offset))
 }
 
-// A symbol that another file defines.
-fn undefined_symbol(
-    alloc: Global,
+// Adds a symbol that another file defines.
+fn add_outside(
+    object: &mut Object,
     name: &str,
     size: u64,
     kind: SymbolKind,
-) -> Result<Symbol, AllocError>
-    ensures { IfOk result (λ symbol. symbol ≡ undefined_symbol name.now size kind) }
+) -> Result<(), AllocError>
+    ensures { OnOk result (object.new ≡ with_symbol object.old (undefined_symbol name.now size kind)) }
 {
-    Ok(Symbol {
-        name: SymbolName::from_slice(alloc, name.as_bytes())?,
+    object.add_symbol(name.as_bytes(), outside_symbol(size, kind))?;
+    Ok(())
+}
+
+// A symbol that another file defines, under any name.
+fn outside_symbol(size: u64, kind: SymbolKind) -> Symbol
+    ensures { result ≡ outside_symbol size kind }
+{
+    Symbol {
         value: 0,
         size,
         kind,
@@ -233,44 +228,32 @@ fn undefined_symbol(
         weak: false,
         section: SymbolSection::Undefined,
         no_dead_strip: false,
-    })
-}
-
-// A symbol that the linker itself defines.
-fn known_symbol(alloc: Global, symbol: KnownSymbol) -> Result<Symbol, AllocError>
-    ensures { IfOk result (λ added. added ≡ known_symbol symbol) }
-{
-    match symbol {
-        KnownSymbol::ElfGlobalOffsetTable => {
-            undefined_symbol(alloc, "_GLOBAL_OFFSET_TABLE_", 0, SymbolKind::Data)
-        }
-        KnownSymbol::CoffTlsIndex => undefined_symbol(alloc, "_tls_index", 32, SymbolKind::Tls),
     }
 }
 
-// The symbol of a place in a function, where the function's own symbol is this one. A place of more than 128 bits wants
-// more memory than there is.
-fn label_symbol(
-    alloc: Global,
-    function: FuncId,
-    offset: u32,
-    function_symbol: &Symbol,
-) -> Result<Symbol, AllocError>
-    ensures { IfOk result (λ symbol. symbol ≡ label_at function offset function_symbol.now.value function_symbol.now.section) }
+// Adds a symbol that the linker itself defines.
+fn add_known(object: &mut Object, symbol: KnownSymbol) -> Result<(), AllocError>
+    ensures { OnOk result (object.new ≡ with_symbol object.old (known_symbol symbol)) }
 {
-    let Some(value) = function_symbol.value.checked_add(u128::from(offset)) else {
-        return Err(AllocError);
-    };
-    let number = function.as_u32();
-    let name = format!(in alloc; ".L{number}_{offset}")?;
-    Ok(Symbol {
-        name: SymbolName::from_slice(alloc, name.as_str().as_bytes())?,
+    match symbol {
+        KnownSymbol::ElfGlobalOffsetTable => {
+            add_outside(object, "_GLOBAL_OFFSET_TABLE_", 0, SymbolKind::Data)
+        }
+        KnownSymbol::CoffTlsIndex => add_outside(object, "_tls_index", 32, SymbolKind::Tls),
+    }
+}
+
+// A place inside a function, under any name.
+fn inner_symbol(value: u128, section: SymbolSection) -> Symbol
+    ensures { result ≡ inner_symbol value section }
+{
+    Symbol {
         value,
         size: 0,
         kind: SymbolKind::Label,
         scope: SymbolScope::Compilation,
         weak: false,
-        section: function_symbol.section,
+        section,
         no_dead_strip: false,
-    })
+    }
 }

@@ -4,9 +4,7 @@ ghost use Rattle.std.specs.Prelude.{◌≡◌, IfOk};
 ghost use Rattle.file_tests.specs.SmallObjects.{file_object, main_object};
 
 use ir_core::{Architecture, BinaryFormat};
-use object_core::{
-    Object, StandardSection, Symbol, SymbolKind, SymbolName, SymbolScope, SymbolSection,
-};
+use object_core::{Object, StandardSection, Symbol, SymbolKind, SymbolScope, SymbolSection};
 use object_elf::{elf_plan, emit_elf, fill_elf};
 use std::alloc::{AllocError, Global};
 use std::test::Fail;
@@ -26,9 +24,7 @@ fn main_object(alloc: Global) -> Result<Object, AllocError>
 {
     let mut object = file_object(alloc)?;
     let text = object.section_id(StandardSection::Text)?;
-    let name = SymbolName::from_slice(alloc, b"main")?;
-    let main = object.add_symbol(Symbol {
-        name,
+    let symbol = Symbol {
         value: 0,
         size: 0,
         kind: SymbolKind::Text,
@@ -36,7 +32,8 @@ fn main_object(alloc: Global) -> Result<Object, AllocError>
         weak: false,
         section: SymbolSection::Undefined,
         no_dead_strip: false,
-    })?;
+    };
+    let main = object.add_symbol(b"main", symbol)?;
     object.add_symbol_data(main, text, b"\xc3", 1)?;
     Ok(object)
 }

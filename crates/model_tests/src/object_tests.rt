@@ -4,17 +4,15 @@
 use ir_core::{Architecture, BinaryFormat};
 use object_core::{
     MachOBuildVersion, Object, Relocation, RelocationFlags, Section, SectionId, SectionKind,
-    StandardSection, Symbol, SymbolId, SymbolKind, SymbolName, SymbolScope, SymbolSection,
+    StandardSection, Symbol, SymbolId, SymbolKind, SymbolScope, SymbolSection,
 };
-use std::alloc::{AllocError, Global};
+use std::alloc::AllocError;
 use std::process::Abort;
 use std::test::Fail;
 
 // The number of a symbol that is appended and not defined.
-fn symbol(alloc: Global, object: &mut Object, name: &[u8]) -> Result<SymbolId, AllocError> {
-    let name = SymbolName::from_slice(alloc, name)?;
-    object.add_symbol(Symbol {
-        name,
+fn symbol(object: &mut Object, name: &[u8]) -> Result<SymbolId, AllocError> {
+    let symbol = Symbol {
         value: 0,
         size: 0,
         kind: SymbolKind::Text,
@@ -22,7 +20,8 @@ fn symbol(alloc: Global, object: &mut Object, name: &[u8]) -> Result<SymbolId, A
         weak: false,
         section: SymbolSection::Undefined,
         no_dead_strip: false,
-    })
+    };
+    object.add_symbol(name, symbol)
 }
 
 // The number of a standard section.
@@ -94,11 +93,11 @@ fn zeros_added(
     }
 }
 
-fn place_three(rt: &impl Abort, alloc: Global, object: &mut Object) -> Result<(), AllocError> {
+fn place_three(rt: &impl Abort, object: &mut Object) -> Result<(), AllocError> {
     let text = standard(rt, object, StandardSection::Text)?;
-    let f = symbol(alloc, object, b"f")?;
-    let g = symbol(alloc, object, b"g")?;
-    let h = symbol(alloc, object, b"h")?;
+    let f = symbol(object, b"f")?;
+    let g = symbol(object, b"g")?;
+    let h = symbol(object, b"h")?;
     assert_eq!(rt; added(rt, object, f, text, b"\xc3", 1)?, 0);
     assert_eq!(rt; added(rt, object, g, text, b"\x31\xc0\xc3", 16)?, 16);
     assert_eq!(rt; added(rt, object, h, text, b"", 8)?, 24);
@@ -118,17 +117,17 @@ fn place_three(rt: &impl Abort, alloc: Global, object: &mut Object) -> Result<()
 #[test]
 fn contents_stand_at_the_next_multiple_of_their_alignment(rt: HostRuntime) -> Result<(), Fail> {
     let mut object = Object::new(rt.alloc(), BinaryFormat::Elf, Architecture::X86_64, 0);
-    place_three(&rt, rt.alloc(), &mut object)?;
+    place_three(&rt, &mut object)?;
     Ok(())
 }
 
-fn place_zeros(rt: &impl Abort, alloc: Global, object: &mut Object) -> Result<(), AllocError> {
+fn place_zeros(rt: &impl Abort, object: &mut Object) -> Result<(), AllocError> {
     let data = standard(rt, object, StandardSection::Data)?;
     let zeros = standard(rt, object, StandardSection::UninitializedData)?;
-    let a = symbol(alloc, object, b"a")?;
-    let b = symbol(alloc, object, b"b")?;
-    let c = symbol(alloc, object, b"c")?;
-    let d = symbol(alloc, object, b"d")?;
+    let a = symbol(object, b"a")?;
+    let b = symbol(object, b"b")?;
+    let c = symbol(object, b"c")?;
+    let d = symbol(object, b"d")?;
     assert_eq!(rt; zeros_added(rt, object, a, data, 3, 1)?, 0);
     assert_eq!(rt; zeros_added(rt, object, b, data, 2, 4)?, 4);
     assert_eq!(rt;
@@ -152,7 +151,7 @@ fn place_zeros(rt: &impl Abort, alloc: Global, object: &mut Object) -> Result<()
 #[test]
 fn zeros_of_a_zero_fill_section_are_a_number(rt: HostRuntime) -> Result<(), Fail> {
     let mut object = Object::new(rt.alloc(), BinaryFormat::Elf, Architecture::X86_64, 0);
-    place_zeros(&rt, rt.alloc(), &mut object)?;
+    place_zeros(&rt, &mut object)?;
     Ok(())
 }
 
@@ -179,16 +178,16 @@ fn added_in_mach_o(
     object.add_symbol_data(symbol, section, contents, align)
 }
 
-fn place_nothing(rt: &impl Abort, alloc: Global, object: &mut Object) -> Result<u128, AllocError> {
+fn place_nothing(rt: &impl Abort, object: &mut Object) -> Result<u128, AllocError> {
     let section = object.add_section(b"__DATA", b"__data", SectionKind::Data, 0)?;
-    let id = symbol(alloc, object, b"_a")?;
+    let id = symbol(object, b"_a")?;
     added_in_mach_o(rt, object, id, section, b"", 1)
 }
 
 #[test]
 fn empty_contents_take_a_byte_of_mach_o(rt: HostRuntime) -> Result<(), Fail> {
     let mut object = Object::new(rt.alloc(), BinaryFormat::Macho, Architecture::Aarch64, 0);
-    assert_eq!(rt; place_nothing(&rt, rt.alloc(), &mut object)?, 0);
+    assert_eq!(rt; place_nothing(&rt, &mut object)?, 0);
     assert_eq!(rt; object.content_sum(), 2);
     Ok(())
 }
@@ -256,9 +255,9 @@ fn open_sections(rt: &impl Abort, object: &mut Object) -> Result<(), AllocError>
     let own = object.add_subsection(StandardSection::Text)?;
     assert_eq!(rt; own.as_number(), 2);
     assert_eq!(rt; object.sections().len(), 3);
-    let section = section_at(object, own)?;
-    assert!(rt; section.name() == b".text.subsection".as_slice());
-    assert_eq!(rt; section.align(), 1);
+    assert!(rt; own.as_number() < object.sections().len());
+    assert!(rt; object.section_name(own) == b".text.subsection".as_slice());
+    assert_eq!(rt; section_at(object, own)?.align(), 1);
     Ok(())
 }
 
@@ -274,9 +273,10 @@ fn add_two_sections(rt: &impl Abort, object: &mut Object) -> Result<(), AllocErr
     let second = object.add_section(b"__DATA", b"__mine", SectionKind::UninitializedData, 1)?;
     assert_eq!(rt; first.as_number(), 0);
     assert_eq!(rt; second.as_number(), 1);
+    assert!(rt; second.as_number() < object.sections().len());
+    assert!(rt; object.section_segment(second) == b"__DATA".as_slice());
+    assert!(rt; object.section_name(second) == b"__mine".as_slice());
     let section = section_at(object, second)?;
-    assert!(rt; section.segment() == b"__DATA".as_slice());
-    assert!(rt; section.name() == b"__mine".as_slice());
     assert_eq!(rt; section.macho_flags(), 1);
     assert!(rt; matches!(section.kind(), SectionKind::UninitializedData));
     Ok(())
@@ -289,13 +289,9 @@ fn a_section_of_any_name_is_appended(rt: HostRuntime) -> Result<(), Fail> {
     Ok(())
 }
 
-fn write_into_symbols(
-    rt: &impl Abort,
-    alloc: Global,
-    object: &mut Object,
-) -> Result<(), AllocError> {
-    let f = symbol(alloc, object, b"f")?;
-    let g = symbol(alloc, object, b"g")?;
+fn write_into_symbols(rt: &impl Abort, object: &mut Object) -> Result<(), AllocError> {
+    let f = symbol(object, b"f")?;
+    let g = symbol(object, b"g")?;
     assert!(rt; f.as_number() < object.symbols().len());
     object.symbol_mut(f).size = 8;
     assert_eq!(rt; symbol_at(object, f)?.size, 8);
@@ -306,7 +302,7 @@ fn write_into_symbols(
 #[test]
 fn what_is_written_into_a_symbol_stays_there(rt: HostRuntime) -> Result<(), Fail> {
     let mut object = Object::new(rt.alloc(), BinaryFormat::Elf, Architecture::X86_64, 0);
-    write_into_symbols(&rt, rt.alloc(), &mut object)?;
+    write_into_symbols(&rt, &mut object)?;
     Ok(())
 }
 
@@ -330,11 +326,11 @@ fn the_build_version_that_was_set_last_is_told(rt: HostRuntime) {
     assert_eq!(rt; told, Some((4, 5, 6)));
 }
 
-fn name_four(rt: &impl Abort, alloc: Global, object: &mut Object) -> Result<(), AllocError> {
+fn name_four(rt: &impl Abort, object: &mut Object) -> Result<(), AllocError> {
     assert_eq!(rt; object.add_file_symbol(b"a\0.o")?.as_number(), 0);
-    symbol(alloc, object, b"f")?;
-    symbol(alloc, object, b"f")?;
-    symbol(alloc, object, b"")?;
+    symbol(object, b"f")?;
+    symbol(object, b"f")?;
+    symbol(object, b"")?;
     assert_eq!(rt; object.symbol_id(b"f"), Some(SymbolId::from_number(1)));
     assert_eq!(rt; object.symbol_id(b""), Some(SymbolId::from_number(3)));
     assert_eq!(rt; object.symbol_id(b"a\0.o"), Some(SymbolId::from_number(0)));
@@ -348,6 +344,86 @@ fn name_four(rt: &impl Abort, alloc: Global, object: &mut Object) -> Result<(), 
 #[test]
 fn a_name_finds_the_first_symbol_of_its_bytes(rt: HostRuntime) -> Result<(), Fail> {
     let mut object = Object::new(rt.alloc(), BinaryFormat::Elf, Architecture::X86_64, 0);
-    name_four(&rt, rt.alloc(), &mut object)?;
+    name_four(&rt, &mut object)?;
+    Ok(())
+}
+
+// A thousand sections and symbols under one text.
+fn name_alike(object: &mut Object, text: &[u8]) -> Result<(), AllocError> {
+    for _ in 0..1000 {
+        object.add_section(text, text, SectionKind::Data, 0)?;
+        symbol(object, text)?;
+    }
+    Ok(())
+}
+
+#[test]
+fn the_text_of_a_thousand_symbols_and_sections_is_kept_once(rt: HostRuntime) -> Result<(), Fail> {
+    let mut object = Object::new(rt.alloc(), BinaryFormat::Macho, Architecture::Aarch64, 0);
+    let text = vec![in rt.alloc(); b'n'; 1000]?;
+    name_alike(&mut object, &text)?;
+    assert_eq!(rt; object.sections().len(), 1000);
+    assert_eq!(rt; object.symbols().len(), 1000);
+    assert_eq!(rt; object.name_bytes(), 1000);
+    symbol(&mut object, b"f")?;
+    symbol(&mut object, &text)?;
+    assert_eq!(rt; object.name_bytes(), 1001);
+    Ok(())
+}
+
+// A thousand symbols, each under two bytes of its own, and a section of each of these names.
+fn name_apart(object: &mut Object) -> Result<(), AllocError> {
+    for number in 0..1000_u16 {
+        let name = number.to_le_bytes();
+        symbol(object, &name)?;
+        object.add_section(b"", &name, SectionKind::Data, 0)?;
+    }
+    Ok(())
+}
+
+#[test]
+fn a_thousand_texts_are_kept_and_found_apart(rt: HostRuntime) -> Result<(), Fail> {
+    let mut object = Object::new(rt.alloc(), BinaryFormat::Elf, Architecture::X86_64, 0);
+    name_apart(&mut object)?;
+    assert_eq!(rt; object.name_bytes(), 2000);
+    assert_eq!(rt;
+        object.symbol_id(b"\xe7\x03"),
+        Some(SymbolId::from_number(999))
+    );
+    assert_eq!(rt; object.symbol_id(b"\xe8\x03"), None);
+    let last = SectionId::from_number(999);
+    assert!(rt; last.as_number() < object.sections().len());
+    assert!(rt; object.section_name(last) == b"\xe7\x03".as_slice());
+    Ok(())
+}
+
+// Two texts of one FNV-1a number of 64 bits, by a published collision.
+const FIRST: &[u8] = b"8yn0iYCKYHlIj4-BwPqk";
+
+const SECOND: &[u8] = b"GReLUrM4wMqfg9yzV3KQ";
+
+fn name_by_one_number(rt: &impl Abort, object: &mut Object) -> Result<(), AllocError> {
+    let first = symbol(object, FIRST)?;
+    let second = symbol(object, SECOND)?;
+    let again = symbol(object, FIRST)?;
+    let section = object.add_section(FIRST, SECOND, SectionKind::Data, 0)?;
+    assert_eq!(rt; object.name_bytes(), 40);
+    assert!(rt; first.as_number() < object.symbols().len());
+    assert!(rt; second.as_number() < object.symbols().len());
+    assert!(rt; again.as_number() < object.symbols().len());
+    assert!(rt; object.symbol_name(first) == FIRST);
+    assert!(rt; object.symbol_name(second) == SECOND);
+    assert!(rt; object.symbol_name(again) == FIRST);
+    assert!(rt; section.as_number() < object.sections().len());
+    assert!(rt; object.section_segment(section) == FIRST);
+    assert!(rt; object.section_name(section) == SECOND);
+    assert_eq!(rt; object.symbol_id(SECOND), Some(SymbolId::from_number(1)));
+    Ok(())
+}
+
+#[test]
+fn texts_of_one_number_are_kept_apart(rt: HostRuntime) -> Result<(), Fail> {
+    let mut object = Object::new(rt.alloc(), BinaryFormat::Macho, Architecture::Aarch64, 0);
+    name_by_one_number(&rt, &mut object)?;
     Ok(())
 }

@@ -1,2 +1,6 @@
+pub mod Texts
+pub mod Joined
+pub mod Counted
+pub mod ObjectNames
 pub mod Sections
 pub mod Standards

@@ -10,9 +10,8 @@ use Rattle.std.proofs.lemmas.List.Sums.{sum_by-set, sum_by_push, get_or-le-sum_b
 use Rattle.ir_core.specs.declared.target.BinaryFormat.{BinaryFormat}
 use Rattle.ir_core.specs.declared.target.BinaryFormat.TheVariants.{Elf, Coff, Macho, Wasm, Unknown}
 use Rattle.object_core.specs.declared.relocation.Relocation.{Relocation}
-use Rattle.object_core.specs.declared.symbol.Symbol.{Symbol}
 use Rattle.object_core.specs.Object.{SectionData, ObjectData}
-use Rattle.object_core.specs.Appending.{changed_at, retained, relocated, with_contents, with_room, offset_in, next_offset, room_in, stored_in, with_section_data, with_section_room, defined_symbol, with_definition, is_unstored, HasBytes, IsZeroFill, IsSection, AreSections}
+use Rattle.object_core.specs.Appending.{changed_at, retained, relocated, with_contents, with_room, offset_in, next_offset, room_in, stored_in, with_section_data, with_section_room, is_unstored, HasBytes, IsZeroFill, IsSection, AreSections}
 
 -- a place at which a list has a value lies in it
 pub mapped_within : {A B : Type 0} (f : A → B) (xs : List A) (k : ℕ) (y : B) → option_map f (slice_get xs k) ≡ Some y → k < length xs
@@ -176,6 +175,13 @@ pub size_below : (o now : ObjectData) (i section bound : ℕ) (unstored : Bool) 
 size_below o now i section bound unstored s sound same is h small e =
     size_bound o.format o.sections o.content_sum bound i s sound (rw same small) (mapped_within (is_unstored o.format) o.sections i unstored (held_at o now i section unstored same is h)) e
 
+-- the contents of a section that has bytes are as many as its size
+pub bytes_here : (o now : ObjectData) (i section : ℕ) (s : SectionData) → AreSections o.format o.sections o.content_sum → o ≡ now → i ≡ section → HasBytes now section → s ≡ get_or o.sections i s → length s.contents ≡ s.size
+bytes_here o now i section s sound same is h e =
+    let f = is_unstored o.format in
+    let here = held_at o now i section false same is h in
+    contents_are o.format o.sections o.content_sum i s sound (mapped_within f o.sections i false here) e (mapped_is f o.sections i s false e here)
+
 pub offset_below : (o now : ObjectData) (i section align offset : ℕ) (unstored : Bool) (s : SectionData) → o ≡ now → i ≡ section → option_map (is_unstored now.format) (slice_get now.sections section) ≡ Some unstored → s ≡ get_or o.sections i s → offset ≡ offset_in align s → offset ≡ next_offset now section align
 offset_below o now i section align offset unstored s same is h e at =
     let below = mapped_within (is_unstored o.format) o.sections i unstored (held_at o now i section unstored same is h) in
@@ -222,8 +228,3 @@ added_data o now i section s new bytes stored align added same is e changed stor
 pub added_room : (o now : ObjectData) (i section : ℕ) (s new : SectionData) (size room align added : ℕ) → o ≡ now → i ≡ section → s ≡ get_or o.sections i s → new ≡ with_room room align s → room ≡ room_in o.format size → added ≡ room_in o.format size + align
     → record o { sections = set o.sections i new; content_sum = o.content_sum + added } ≡ with_section_room now section size align
 added_room o now i section s new size room align added same is e changed takes amount = rw (← same, changed, amount, changed_set (with_room room align) o.sections i s e, takes, is) refl
-
--- what a call leaves that defined a symbol
-pub placed_symbol : (o now : ObjectData) (j symbol section offset size : ℕ) (t defined : Symbol) → o ≡ now → j ≡ symbol → defined ≡ defined_symbol section offset size t → t ≡ get_or o.symbols j t
-    → record o { symbols = set o.symbols j defined } ≡ with_definition now symbol section offset size
-placed_symbol o now j symbol section offset size t defined same is changed e = rw (← same, changed, changed_set (defined_symbol section offset size) o.symbols j t e, is) refl

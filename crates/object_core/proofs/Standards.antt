@@ -1,15 +1,15 @@
 -- Where the standard sections stand, as sections come and change.
-use Rattle.std.proofs.Common.{◌≡◌, ◌≢◌, ℕ, zero, suc, ◌+◌, ◌<◌, ◌==◌, ◌++◌, ◌∷◌, List, [], Bool, true, false, cond, inl, inr, length, get_or, set, Option, Some, None, refl, ap, sym, ◌∙◌, arith}
+use Rattle.std.proofs.Common.{◌≡◌, ◌≢◌, ℕ, zero, suc, ◌+◌, ◌<◌, ◌≤◌, ◌==◌, ◌++◌, ◌∷◌, List, [], Bool, true, false, cond, inl, inr, length, get_or, set, Option, Some, None, refl, ap, sym, subst, ◌∙◌, arith}
 use Rattle.std.proofs.lemmas.Bool.{cases_Bool}
 use Rattle.std.proofs.lemmas.Bool.Decides.{eqb_tells}
 use Rattle.std.proofs.lemmas.Option.{get_or_from_slice_get}
-use Rattle.std.specs.Prelude.{slice_get}
+use Rattle.std.specs.Prelude.{slice_get, IfSome}
 use Rattle.std.specs.List.{position_from}
 use Rattle.object_core.specs.declared.kinds.StandardSection.{StandardSection}
 use Rattle.object_core.specs.declared.kinds.StandardSection.TheVariants.{Text, Data, ReadOnlyData, ReadOnlyDataWithRel, UninitializedData, Tls, UninitializedTls}
 use Rattle.object_core.specs.Object.{SectionData}
 use Rattle.object_core.specs.Standard.{standard_place, is_same_shared}
-use Rattle.object_core.specs.Appending.{standard_at, KeepsStandards}
+use Rattle.object_core.specs.Appending.{standard_at, KeepsStandards, kept_places}
 
 -- -- the first place at which a test passes
 
@@ -83,6 +83,27 @@ kept_standard places sections longer standard place number new h e shared none a
           ap (slice_get (set places (standard_place standard) (Some (length sections)))) is.1 ∙ set_there places (standard_place standard) (Some (length sections)) within ∙ ap Some (sym (position_first test 0 sections new (tested ∙ is.0) missing ∙ ap Some front)))
       | inr apart ↦ set_elsewhere places (standard_place standard) (standard_place other) (Some (length sections)) apart.1 ∙ h other ∙ ap Some (sym (position_push test 0 sections new (tested ∙ apart.0)))
     ])
+
+place_below : (standard : StandardSection) → standard_place standard < 7
+place_below Text = omega arith
+place_below Data = omega arith
+place_below ReadOnlyData = omega arith
+place_below ReadOnlyDataWithRel = omega arith
+place_below UninitializedData = omega arith
+place_below Tls = omega arith
+place_below UninitializedTls = omega arith
+
+kept_once : (places : List (Option ℕ)) (sections longer : List SectionData) (shared : Option StandardSection) (number : ℕ) (new : SectionData) → KeepsStandards places sections → longer ≡ sections ++ new ∷ [] → new.shared ≡ shared → IfSome shared (λ standard. standard_at sections standard ≡ None) → number ≡ length sections
+    → 7 ≤ length places → KeepsStandards (kept_places places shared number) longer
+kept_once places sections longer None number new h e own none count within = kept_push places sections longer new h e own
+kept_once places sections longer (Some standard) number new h e shared none count within =
+    let below : standard_place standard < length places = omega (arith, place_below standard, within) in
+    kept_standard places sections longer standard (standard_place standard) number new h e shared none refl count below
+
+-- one more section, which was not there if it is a standard one
+pub kept_more : (places after : List (Option ℕ)) (sections longer : List SectionData) (shared : Option StandardSection) (number : ℕ) (new : SectionData) → KeepsStandards places sections → longer ≡ sections ++ new ∷ [] → new.shared ≡ shared → IfSome shared (λ standard. standard_at sections standard ≡ None) → number ≡ length sections
+    → 7 ≤ length places → after ≡ kept_places places shared number → KeepsStandards after longer
+kept_more places after sections longer shared number new h e own none count within is = subst (λ kept. KeepsStandards kept longer) (sym is) (kept_once places sections longer shared number new h e own none count within)
 
 -- what is kept of a standard section
 pub kept_is : (places : List (Option ℕ)) (sections : List SectionData) (standard : StandardSection) (place : ℕ) (number : Option ℕ) → KeepsStandards places sections → place ≡ standard_place standard → number ≡ get_or places place number → number ≡ standard_at sections standard

@@ -1,5 +1,5 @@
 -- What each call of an object appends.
-use Rattle.std.specs.Prelude.{◌≡◌, ℕ, zero, suc, ◌+◌, ◌-◌, ◌<◌, ◌≤◌, max, Bool, true, false, List, [], ◌∷◌, ◌++◌, length, replicate, slice_get, slice_set, Option, Some, None, option_map, unwrap_or, sum_by, if◌then◌else◌}
+use Rattle.std.specs.Prelude.{◌≡◌, ℕ, ◌+◌, ◌-◌, ◌<◌, ◌≤◌, max, Bool, true, false, List, [], ◌∷◌, ◌++◌, length, replicate, slice_get, slice_set, Option, Some, None, option_map, unwrap_or, sum_by, if◌then◌else◌}
 use Rattle.std.specs.List.{position_from, All}
 use Rattle.std.specs.Int.{next_multiple_of, is_power_of_two}
 use Rattle.ir_core.specs.declared.target.Architecture.{Architecture}
@@ -13,7 +13,7 @@ use Rattle.object_core.specs.declared.kinds.SymbolScope.TheVariants as scope
 use Rattle.object_core.specs.declared.kinds.SymbolSection.TheVariants.{Undefined, Absolute, Section}
 use Rattle.object_core.specs.declared.relocation.Relocation.{Relocation}
 use Rattle.object_core.specs.declared.symbol.Symbol.{Symbol}
-use Rattle.object_core.specs.Object.{SectionData, ObjectData}
+use Rattle.object_core.specs.Object.{SymbolData, SectionData, ObjectData, named}
 use Rattle.object_core.specs.Standard.{standard_place, is_same_shared, takes_no_bytes, empty_section, empty_standard, empty_subsection}
 pub use Rattle.ir_core.specs.Changes.{changed_at}
 
@@ -27,15 +27,15 @@ with_build_version o version = record o { build_version = Some version }
 
 -- -- symbols
 
-abbrev pub with_symbol : ObjectData → Symbol → ObjectData
+abbrev pub with_symbol : ObjectData → SymbolData → ObjectData
 with_symbol o s = record o { symbols = o.symbols ++ s ∷ [] }
 
--- an object whose symbol of this number is another
+-- an object whose symbol of this number is another, under its name
 abbrev pub with_symbol_at : ObjectData → ℕ → Symbol → ObjectData
-with_symbol_at o k s = record o { symbols = slice_set o.symbols k s }
+with_symbol_at o k s = record o { symbols = changed_at k (λ old. named old.name s) o.symbols }
 
 -- the symbol that names the source file
-abbrev pub file_symbol : List ℕ → Symbol
+abbrev pub file_symbol : List ℕ → SymbolData
 file_symbol name = record { name = name; value = 0; size = 0; kind = kind.File; scope = scope.Compilation; weak = false; section = Absolute; no_dead_strip = false }
 
 -- -- standard sections
@@ -117,7 +117,7 @@ abbrev pub with_section_room : ObjectData → ℕ → ℕ → ℕ → ObjectData
 with_section_room o section size align = record o { sections = changed_at section (with_room (room_in o.format size) align) o.sections; content_sum = o.content_sum + (room_in o.format size + align) }
 
 -- a symbol that now stands at this offset of a section
-abbrev pub defined_symbol : ℕ → ℕ → ℕ → Symbol → Symbol
+abbrev pub defined_symbol : ℕ → ℕ → ℕ → SymbolData → SymbolData
 defined_symbol section offset size s = record s { value = offset; size = size; section = Section section }
 
 -- an object whose symbol of this number stands at this offset of a section
@@ -138,7 +138,7 @@ with_symbol_bss o symbol section size align = with_definition (with_section_room
 
 -- the object has such a symbol, and it is not defined yet
 abbrev pub IsUndefined : ObjectData → ℕ → Type 0
-IsUndefined o symbol = option_map (λ (s : Symbol). s.section) (slice_get o.symbols symbol) ≡ Some Undefined
+IsUndefined o symbol = option_map (λ (s : SymbolData). s.section) (slice_get o.symbols symbol) ≡ Some Undefined
 
 -- a section of an object of this format takes no bytes of its file
 abbrev pub is_unstored : BinaryFormat → SectionData → Bool
@@ -170,6 +170,11 @@ pub record AreSections (format : BinaryFormat) (sections : List SectionData) (su
 -- what is kept of the standard sections is where each of them stands, by its place in their order
 abbrev pub KeepsStandards : List (Option ℕ) → List SectionData → Type 0
 KeepsStandards places sections = (standard : StandardSection) → slice_get places (standard_place standard) ≡ Some (standard_at sections standard)
+
+-- what is kept once a section is appended at this number
+abbrev pub kept_places : List (Option ℕ) → Option StandardSection → ℕ → List (Option ℕ)
+kept_places places None number = places
+kept_places places (Some standard) number = slice_set places (standard_place standard) (Some number)
 
 -- the sections of an object are sound, and it keeps where the standard ones stand
 pub record IsKept (format : BinaryFormat) (sections : List SectionData) (sum : ℕ) (places : List (Option ℕ)) : Type 0 where

@@ -1,12 +1,10 @@
 -- What contracts see of a section.
 use Rattle.object_core.specs.declared.section.Section.TheInside.{Inside}
-use Rattle.object_core.specs.Object.{SectionData}
+use Rattle.object_core.specs.Object.{SectionBody}
 
-abbrev pub section_view : Inside → SectionData
+abbrev pub section_view : Inside → SectionBody
 section_view s =
     record {
-      segment = s.segment.items;
-      name = s.name.items;
       kind = s.kind;
       macho_flags = s.macho_flags;
       retain = s.retain;

@@ -1,18 +1,24 @@
 //! Objects: sections and symbols in order of creation.
 
-ghost use Rattle.std.specs.Prelude.{◌≡◌, ◌+◌, ◌∷◌, ◌++◌, [], ◌<◌, ◌^◌, true, length, replicate, slice_get, Some, None, IsOk, IfOk, OnErr, OnOk, unwrap_or};
-ghost use Rattle.std.specs.List.{position_from};
+ghost use Rattle.std.specs.Prelude.{◌≡◌, ◌+◌, ◌∷◌, ◌++◌, [], ◌<◌, ◌^◌, true, length, replicate, slice_get, Some, None, IsOk, IfOk, OnErr, OnOk, unwrap_or, option_map, map, IfSome};
+ghost use Rattle.std.specs.List.{All, position_from};
 ghost use Rattle.std.specs.Str.{bytes_eq};
 ghost use Rattle.std.specs.Int.{is_power_of_two};
 ghost use Rattle.std.specs.Borrow.{Lends, sem};
 ghost use Rattle.ir_core.specs.declared.target.BinaryFormat.TheVariants.{Elf};
 ghost use Rattle.object_core.specs.contracts.object.Object.{the_row};
 ghost use Rattle.object_core.specs.contracts.symbol.Symbol.{the_row as symbol_row};
-ghost use Rattle.object_core.specs.Appending.{empty_object, with_build_version, with_symbol, with_symbol_at, file_symbol, standard_at, with_standard, with_standard_section, with_subsection, with_section, with_retain, with_relocation, next_offset, room_in, stored_in, with_section_data, with_section_room, with_definition, with_symbol_data, with_symbol_zeros, with_symbol_bss, IsUndefined, HasBytes, IsZeroFill, AreSections};
+ghost use Rattle.object_core.specs.Object.{named, plain_symbol, body_of};
+ghost use Rattle.object_core.specs.Names.{text_at};
+ghost use Rattle.object_core.specs.ObjectNames.{name_bytes};
+ghost use Rattle.object_core.specs.Standard.{empty_section};
+ghost use Rattle.object_core.specs.Appending.{empty_object, with_build_version, with_symbol, with_symbol_at, file_symbol, standard_at, with_standard_section, with_subsection, with_section, with_retain, with_relocation, next_offset, room_in, stored_in, with_section_data, with_section_room, with_definition, with_symbol_data, with_symbol_zeros, with_symbol_bss, IsUndefined, HasBytes, IsZeroFill, AreSections, kept_places};
 
+use crate::names::Names;
+use crate::placing::push_reserved;
 use crate::{
     MachOBuildVersion, Relocation, Section, SectionId, SectionKind, StandardSection, Symbol,
-    SymbolId, SymbolKind, SymbolName, SymbolScope, SymbolSection,
+    SymbolId, SymbolKind, SymbolScope, SymbolSection,
 };
 use ir_core::{Architecture, BinaryFormat};
 use std::alloc::{AllocError, Global};
@@ -27,10 +33,21 @@ pub struct Object {
     e_flags: u32,
     build_version: Option<MachOBuildVersion>,
     sections: Vec<Section>,
+    section_names: Vec<SectionNames>,
     // The number of each standard section, by its place in their order, none before its first use.
     standard_sections: [Option<usize>; 7],
     symbols: Vec<Symbol>,
+    // The places of their names.
+    symbol_names: Vec<usize>,
+    names: Names,
     content_sum: u128,
+}
+
+/// The places of a section's texts among the names.
+#[derive(Clone, Copy)]
+struct SectionNames {
+    segment: usize,
+    name: usize,
 }
 
 impl Model for Object {
@@ -38,11 +55,11 @@ impl Model for Object {
 
     ghost Value = { ObjectData };
 
-    ghost view = { λ o. record { format = o.format; architecture = o.architecture; e_flags = o.e_flags; build_version = o.build_version; sections = o.sections.items; symbols = o.symbols.items; content_sum = o.content_sum } };
+    ghost use Rattle.object_core.specs.ObjectView.{object_view, IsSound};
 
-    ghost use Rattle.object_core.specs.Appending.{IsKept};
+    ghost view = { object_view };
 
-    ghost invariant = { λ o. IsKept o.format o.sections.items o.content_sum o.standard_sections };
+    ghost invariant = { IsSound };
 }
 
 impl Object {
@@ -62,8 +79,11 @@ impl Object {
             e_flags,
             build_version: None,
             sections: Vec::new(alloc),
+            section_names: Vec::new(alloc),
             standard_sections: [None; 7],
             symbols: Vec::new(alloc),
+            symbol_names: Vec::new(alloc),
+            names: Names::new(alloc),
             content_sum: 0,
         }
     }
@@ -105,7 +125,7 @@ impl Object {
 
     /// The sections in order of creation.
     pub fn sections(&self) -> &[Section]
-        ensures value { result.now ≡ (self.now).sections }
+        ensures value { result.now ≡ map body_of (self.now).sections }
         ensures sound { AreSections (self.now).format (self.now).sections (self.now).content_sum }
         ensures bound { length (self.now).sections < 2 ^ 63 }
     {
@@ -114,7 +134,7 @@ impl Object {
 
     /// The symbols in order of creation.
     pub fn symbols(&self) -> &[Symbol]
-        ensures value { result.now ≡ (self.now).symbols }
+        ensures value { result.now ≡ map plain_symbol (self.now).symbols }
         ensures bound { length (self.now).symbols < 2 ^ 63 }
     {
         &self.symbols
@@ -123,19 +143,50 @@ impl Object {
     /// The symbol of this number.
     pub fn symbol(&self, id: SymbolId) -> &Symbol
         requires { id < length (self.now).symbols }
-        ensures { slice_get (self.now).symbols id ≡ Some result.now }
+        ensures { option_map plain_symbol (slice_get (self.now).symbols id) ≡ Some result.now }
     {
         &self.symbols[id.as_number()]
     }
 
-    /// The symbol of this number, to write. Whatever is written into it is an object's symbol; a writer asks
-    /// more of it than an object does.
+    /// The symbol of this number, to write; its name stays. Whatever is written into it is an object's symbol; a
+    /// writer asks more of it than an object does.
     pub fn symbol_mut(&mut self, id: SymbolId) -> &mut Symbol
         requires { id < length (self.old).symbols }
         ensures* writes_back { sem 𝓛 (Lends the_row symbol_row self.entry result (with_symbol_at self.old id)) }
-        ensures value { slice_get (self.old).symbols id ≡ Some result.now }
+        ensures value { option_map plain_symbol (slice_get (self.old).symbols id) ≡ Some result.now }
     {
         &mut self.symbols[id.as_number()]
+    }
+
+    /// The name of the symbol of this number.
+    pub fn symbol_name(&self, id: SymbolId) -> &[u8]
+        requires { id < length (self.now).symbols }
+        ensures { option_map (λ s. s.name) (slice_get (self.now).symbols id) ≡ Some result.now }
+    {
+        self.names.text(self.symbol_names[id.as_number()])
+    }
+
+    /// The name of the section of this number, in ELF and in Mach-O.
+    pub fn section_name(&self, id: SectionId) -> &[u8]
+        requires { id < length (self.now).sections }
+        ensures { option_map (λ s. s.name) (slice_get (self.now).sections id) ≡ Some result.now }
+    {
+        self.names.text(self.section_names[id.as_number()].name)
+    }
+
+    /// The Mach-O segment of the section of this number, empty in ELF.
+    pub fn section_segment(&self, id: SectionId) -> &[u8]
+        requires { id < length (self.now).sections }
+        ensures { option_map (λ s. s.segment) (slice_get (self.now).sections id) ≡ Some result.now }
+    {
+        self.names.text(self.section_names[id.as_number()].segment)
+    }
+
+    /// How many bytes the names of the symbols and the sections have, their segments among them; equal ones count once.
+    pub fn name_bytes(&self) -> usize
+        ensures { result ≡ name_bytes self.now }
+    {
+        self.names.bytes()
     }
 
     /// The sizes and alignments of all contents that were added, in bytes.
@@ -149,7 +200,7 @@ impl Object {
     pub fn symbol_id(&self, name: &[u8]) -> Option<SymbolId>
         ensures { result ≡ position_from (λ s. bytes_eq s.name name.now) 0 (self.now).symbols }
     {
-        match place_named(&self.symbols, name) {
+        match place_named(&self.names, &self.symbol_names, name) {
             Some(number) => Some(SymbolId::from_number(number)),
             None => None,
         }
@@ -161,9 +212,7 @@ impl Object {
         ensures ok { OnOk result (self.new ≡ with_symbol self.old (file_symbol name.now)) }
         ensures err { OnErr result (self.new ≡ self.old) }
     {
-        let name = SymbolName::from_slice(self.alloc, name)?;
-        self.add_symbol(Symbol {
-            name,
+        let symbol = Symbol {
             value: 0,
             size: 0,
             kind: SymbolKind::File,
@@ -171,17 +220,24 @@ impl Object {
             weak: false,
             section: SymbolSection::Absolute,
             no_dead_strip: false,
-        })
+        };
+        self.add_symbol(name, symbol)
     }
 
-    /// Appends a symbol.
-    pub fn add_symbol(&mut self, symbol: Symbol) -> Result<SymbolId, AllocError>
+    /// Appends a symbol under a name.
+    pub fn add_symbol(&mut self, name: &[u8], symbol: Symbol) -> Result<SymbolId, AllocError>
         ensures id { IfOk result (λ id. id ≡ length (self.old).symbols) }
-        ensures ok { OnOk result (self.new ≡ with_symbol self.old symbol) }
+        ensures ok { OnOk result (self.new ≡ with_symbol self.old (named name.now symbol)) }
         ensures err { OnErr result (self.new ≡ self.old) }
     {
         let id = SymbolId::from_number(self.symbols.len());
-        self.symbols.push(symbol)?;
+        // The check needs the type of this part told.
+        let _section = symbol.section;
+        self.symbols.reserve(1)?;
+        self.symbol_names.reserve(1)?;
+        let name = self.names.intern(name)?;
+        push_reserved(&mut self.symbols, symbol);
+        push_reserved(&mut self.symbol_names, name);
         Ok(id)
     }
 
@@ -198,8 +254,7 @@ impl Object {
         ensures ok { OnOk result (self.new ≡ with_section self.old segment.now name.now kind macho_flags) }
         ensures err { OnErr result (self.new ≡ self.old) }
     {
-        let section = Section::named(self.alloc, segment, name, kind, macho_flags)?;
-        self.push_section(section)
+        self.push_section(segment, name, kind, macho_flags, None)
     }
 
     /// The section of a standard section, which is made at its first use.
@@ -211,22 +266,8 @@ impl Object {
     {
         match self.kept_number(standard) {
             Some(number) => Ok(SectionId::from_number(number)),
-            None => self.push_standard(standard),
+            None => self.push_section(&[], standard.name(), standard.kind(), 0, Some(standard)),
         }
-    }
-
-    // Appends a standard section that is not there yet.
-    fn push_standard(&mut self, standard: StandardSection) -> Result<SectionId, AllocError>
-        requires { standard_at (self.old).sections standard ≡ None }
-        ensures id { IfOk result (λ id. id ≡ length (self.old).sections) }
-        ensures ok { OnOk result (self.new ≡ with_standard self.old standard None) }
-        ensures err { OnErr result (self.new ≡ self.old) }
-    {
-        let section = Section::standard(self.alloc, standard)?;
-        let number = self.sections.len();
-        self.sections.push(section)?;
-        self.standard_sections[standard.place()] = Some(number);
-        Ok(SectionId::from_number(number))
     }
 
     // The number of a standard section, where it is there.
@@ -244,23 +285,35 @@ impl Object {
         ensures ok { OnOk result (self.new ≡ with_subsection self.old standard) }
         ensures err { OnErr result (self.new ≡ self.old) }
     {
-        let section = Section::subsection(self.alloc, standard)?;
-        self.push_section(section)
+        let mut name = standard.name().to_vec(self.alloc)?;
+        name.extend_from_slice(b".subsection")?;
+        self.push_section(&[], &name, standard.kind(), 0, None)
     }
 
-    // Appends a section of its own, in which nothing is yet.
-    fn push_section(&mut self, section: Section) -> Result<SectionId, AllocError>
-        requires contents { section.contents ≡ [] }
-        requires size { section.size ≡ 0 }
-        requires align { section.align ≡ 1 }
-        requires shared { section.shared ≡ None }
+    // Appends a section in which nothing is yet, and keeps where it is if it is a standard one.
+    fn push_section(
+        &mut self,
+        segment: &[u8],
+        name: &[u8],
+        kind: SectionKind,
+        macho_flags: u32,
+        shared: Option<StandardSection>,
+    ) -> Result<SectionId, AllocError>
+        requires { IfSome shared (λ standard. standard_at (self.old).sections standard ≡ None) }
         ensures id { IfOk result (λ id. id ≡ length (self.old).sections) }
-        ensures ok { OnOk result (self.new ≡ record self.old { sections = (self.old).sections ++ section ∷ [] }) }
+        ensures ok { OnOk result (self.new ≡ record self.old { sections = (self.old).sections ++ empty_section segment.now name.now kind macho_flags shared ∷ [] }) }
         ensures err { OnErr result (self.new ≡ self.old) }
     {
-        let id = SectionId::from_number(self.sections.len());
-        self.sections.push(section)?;
-        Ok(id)
+        let number = self.sections.len();
+        self.sections.reserve(1)?;
+        self.section_names.reserve(1)?;
+        let (segment, name) = self.names.intern_both(segment, name)?;
+        let section = Section::new(self.alloc, kind, macho_flags, shared);
+        let names = SectionNames { segment, name };
+        push_reserved(&mut self.sections, section);
+        push_reserved(&mut self.section_names, names);
+        keep_place(&mut self.standard_sections, shared, number);
+        Ok(SectionId::from_number(number))
     }
 
     /// Marks a section as one that the linker keeps also where nothing uses it.
@@ -446,10 +499,24 @@ fn stored_in<'a>(format: BinaryFormat, contents: &'a [u8]) -> &'a [u8]
     }
 }
 
-fn place_named(symbols: &[Symbol], name: &[u8]) -> Option<usize>
-    ensures { result ≡ position_from (λ s. bytes_eq s.name name.now) 0 symbols.now }
+// Keeps the number of a section that is a standard one.
+fn keep_place(places: &mut [Option<usize>; 7], shared: Option<StandardSection>, number: usize)
+    ensures { places.new ≡ kept_places places.old shared number }
 {
-    symbols
-        .iter()
-        .position(|symbol| symbol.name.as_slice() == name)
+    if let Some(standard) = shared {
+        places[standard.place()] = Some(number);
+    }
+}
+
+// The place of the first symbol of a name, where the names of the symbols stand at these places.
+fn place_named(names: &Names, places: &[usize], name: &[u8]) -> Option<usize>
+    requires { All (λ place. place < length (names.now).texts) places.now }
+    ensures { result ≡ position_from (λ place. bytes_eq (text_at (names.now).texts place) name.now) 0 places.now }
+{
+    for (number, place) in places.iter().enumerate() {
+        if names.text(*place) == name {
+            return Some(number);
+        }
+    }
+    None
 }

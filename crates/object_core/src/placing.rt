@@ -1,6 +1,6 @@
-//! Contents at their places, with zeros between.
+//! What is appended: contents at their places with zeros between, and elements for which there is room.
 
-ghost use Rattle.std.specs.Prelude.{◌≡◌, ◌++◌, OnOk, OnErr, replicate};
+ghost use Rattle.std.specs.Prelude.{◌≡◌, ◌++◌, ◌∷◌, [], ◌<◌, ◌≤◌, OnOk, OnErr, replicate, vec_len, vec_capacity};
 
 use std::alloc::AllocError;
 
@@ -39,4 +39,15 @@ pub(crate) fn append_zeros(out: &mut Vec<u8>, zeros: usize, size: usize) -> Resu
     };
     out.resize(end, 0)?;
     Ok(())
+}
+
+/// Appends an element for which there is room.
+pub(crate) fn push_reserved<T: Drop>(list: &mut Vec<T>, value: T)
+    requires { vec_len list.old < vec_capacity list.old }
+    ensures items { list.new.items ≡ list.old.items ++ value ∷ [] }
+    ensures capacity { vec_capacity list.old ≤ vec_capacity list.new }
+{
+    if list.push(value).is_err() {
+        unreachable!()
+    }
 }

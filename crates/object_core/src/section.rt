@@ -1,20 +1,19 @@
 //! Sections of an object.
 
-ghost use Rattle.std.specs.Prelude.{◌≡◌, ◌<◌, ◌+◌, ◌^◌, true, length, replicate, None, IfOk, OnErr, OnOk};
-ghost use Rattle.std.specs.Int.{is_power_of_two};
-ghost use Rattle.object_core.specs.Standard.{empty_section, empty_standard, empty_subsection};
-ghost use Rattle.object_core.specs.Appending.{retained, relocated, with_contents, with_room, offset_in};
+ghost use Rattle.std.specs.Prelude.{◌≡◌, ◌<◌, ◌+◌, ◌^◌, [], true, length, replicate, IfOk, OnErr, OnOk};
+ghost use Rattle.std.specs.Int.{is_power_of_two, next_multiple_of};
+ghost use Rattle.object_core.specs.Standard.{empty_section};
+ghost use Rattle.object_core.specs.Object.{body_of, changed_body};
+ghost use Rattle.object_core.specs.Appending.{retained, relocated, with_contents, with_room};
 
 use crate::placing::{append_padded, append_zeros};
 use crate::{Relocation, SectionKind, StandardSection};
 use std::alloc::{AllocError, Global};
 use std::marker::Model;
 
-/// A section of an object. A contract sees it with its texts and bytes as lists.
+/// A section of an object, which keeps its segment and name. A contract sees its bytes as a list.
 #[derive(Drop)]
 pub struct Section {
-    segment: Vec<u8>,
-    name: Vec<u8>,
     kind: SectionKind,
     macho_flags: u32,
     retain: bool,
@@ -26,29 +25,15 @@ pub struct Section {
 }
 
 impl Model for Section {
-    ghost use Rattle.object_core.specs.Object.{SectionData};
+    ghost use Rattle.object_core.specs.Object.{SectionBody};
     ghost use Rattle.object_core.specs.SectionView.{section_view};
 
-    ghost Value = { SectionData };
+    ghost Value = { SectionBody };
 
     ghost view = { section_view };
 }
 
 impl Section {
-    /// The Mach-O segment, empty in ELF.
-    pub fn segment(&self) -> &[u8]
-        ensures { result.now ≡ (self.now).segment }
-    {
-        &self.segment
-    }
-
-    /// Its name, in ELF and in Mach-O.
-    pub fn name(&self) -> &[u8]
-        ensures { result.now ≡ (self.now).name }
-    {
-        &self.name
-    }
-
     /// What it holds.
     pub fn kind(&self) -> SectionKind
         ensures { result ≡ (self.now).kind }
@@ -105,51 +90,37 @@ impl Section {
         self.shared
     }
 
-    /// A standard section in which nothing is yet.
-    pub(crate) fn standard(alloc: Global, standard: StandardSection) -> Result<Section, AllocError>
-        ensures { IfOk result (λ s. s ≡ empty_standard standard) }
-    {
-        let name = standard.name().to_vec(alloc)?;
-        Ok(empty_section(Vec::new(alloc), name, standard.kind(), 0, Some(standard)))
-    }
-
-    /// A section beside a standard one, in which nothing is yet.
-    pub(crate) fn subsection(
+    /// A section in which nothing is yet.
+    pub(crate) fn new(
         alloc: Global,
-        standard: StandardSection,
-    ) -> Result<Section, AllocError>
-        ensures { IfOk result (λ s. s ≡ empty_subsection standard) }
-    {
-        let mut name = standard.name().to_vec(alloc)?;
-        name.extend_from_slice(b".subsection")?;
-        Ok(empty_section(Vec::new(alloc), name, standard.kind(), 0, None))
-    }
-
-    /// A section of these names, in which nothing is yet.
-    pub(crate) fn named(
-        alloc: Global,
-        segment: &[u8],
-        name: &[u8],
         kind: SectionKind,
         macho_flags: u32,
-    ) -> Result<Section, AllocError>
-        ensures { IfOk result (λ s. s ≡ empty_section segment.now name.now kind macho_flags None) }
+        shared: Option<StandardSection>,
+    ) -> Section
+        ensures { result ≡ body_of (empty_section [] [] kind macho_flags shared) }
     {
-        let segment = segment.to_vec(alloc)?;
-        let name = name.to_vec(alloc)?;
-        Ok(empty_section(segment, name, kind, macho_flags, None))
+        Section {
+            kind,
+            macho_flags,
+            retain: false,
+            align: 1,
+            size: 0,
+            contents: Vec::new(alloc),
+            relocations: Vec::new(alloc),
+            shared,
+        }
     }
 
     /// Marks it as one that the linker keeps.
     pub(crate) fn set_retain(&mut self)
-        ensures { self.new ≡ retained self.old }
+        ensures { self.new ≡ changed_body retained self.old }
     {
         self.retain = true;
     }
 
     /// Appends a relocation.
     pub(crate) fn add_relocation(&mut self, relocation: Relocation) -> Result<(), AllocError>
-        ensures ok { OnOk result (self.new ≡ relocated relocation self.old) }
+        ensures ok { OnOk result (self.new ≡ changed_body (relocated relocation) self.old) }
         ensures err { OnErr result (self.new ≡ self.old) }
     {
         self.relocations.push(relocation)?;
@@ -161,8 +132,8 @@ impl Section {
         requires power { is_power_of_two align ≡ true }
         requires bytes { length (self.old).contents ≡ (self.old).size }
         requires size { (self.old).size < 2 ^ 127 + 2 ^ 126 }
-        ensures offset { IfOk result (λ offset. offset ≡ offset_in align self.old) }
-        ensures ok { OnOk result (self.new ≡ with_contents contents.now align self.old) }
+        ensures offset { IfOk result (λ offset. offset ≡ next_multiple_of (self.old).size align) }
+        ensures ok { OnOk result (self.new ≡ changed_body (with_contents contents.now align) self.old) }
         ensures err { OnErr result (self.new ≡ self.old) }
     {
         let gap = self.next_offset(align) - self.size;
@@ -175,8 +146,8 @@ impl Section {
         requires power { is_power_of_two align ≡ true }
         requires bytes { length (self.old).contents ≡ (self.old).size }
         requires size { (self.old).size < 2 ^ 127 + 2 ^ 126 }
-        ensures offset { IfOk result (λ offset. offset ≡ offset_in align self.old) }
-        ensures ok { OnOk result (self.new ≡ with_contents (replicate size 0) align self.old) }
+        ensures offset { IfOk result (λ offset. offset ≡ next_multiple_of (self.old).size align) }
+        ensures ok { OnOk result (self.new ≡ changed_body (with_contents (replicate size 0) align) self.old) }
         ensures err { OnErr result (self.new ≡ self.old) }
     {
         let offset = self.size.next_multiple_of(u128::from(align));
@@ -192,8 +163,8 @@ impl Section {
     pub(crate) fn append_room(&mut self, size: u64, align: u64) -> u128
         requires power { is_power_of_two align ≡ true }
         requires size { (self.old).size < 2 ^ 127 + 2 ^ 126 }
-        ensures offset { result ≡ offset_in align self.old }
-        ensures room { self.new ≡ with_room size align self.old }
+        ensures offset { result ≡ next_multiple_of (self.old).size align }
+        ensures room { self.new ≡ changed_body (with_room size align) self.old }
     {
         let offset = self.next_offset(align);
         self.size = offset + u128::from(size);
@@ -205,33 +176,8 @@ impl Section {
     fn next_offset(&self, align: u64) -> u128
         requires power { is_power_of_two align ≡ true }
         requires size { (self.now).size < 2 ^ 127 + 2 ^ 126 }
-        ensures { result ≡ offset_in align self.now }
+        ensures { result ≡ next_multiple_of (self.now).size align }
     {
         self.size.next_multiple_of(u128::from(align))
-    }
-}
-
-// A section with these marks, in which nothing is yet.
-fn empty_section(
-    segment: Vec<u8>,
-    name: Vec<u8>,
-    kind: SectionKind,
-    macho_flags: u32,
-    shared: Option<StandardSection>,
-) -> Section
-    ensures { result ≡ empty_section segment.items name.items kind macho_flags shared }
-{
-    let alloc = *name.allocator();
-    Section {
-        segment,
-        name,
-        kind,
-        macho_flags,
-        retain: false,
-        align: 1,
-        size: 0,
-        contents: Vec::new(alloc),
-        relocations: Vec::new(alloc),
-        shared,
     }
 }

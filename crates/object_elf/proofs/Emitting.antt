@@ -11,7 +11,7 @@ use Rattle.byte_core.specs.LaidOut.{Aligned, LaysOut, end_of_aligned, laid_out}
 use Rattle.byte_core.proofs.LaidOut.{lays_as, lays_bytes, lays_more, length-laid_out, end_of_aligned-append}
 use Rattle.byte_core.proofs.Writing.{filled_whole}
 use Rattle.byte_core.proofs.Standing.{length-rows}
-use Rattle.object_core.specs.declared.symbol.Symbol.{Symbol}
+use Rattle.object_core.specs.Object.{SymbolData}
 use Rattle.object_core.specs.LinkTable.{ElfTable, ElfTableSection, ElfTableSymbol}
 use Rattle.object_core.specs.declared.relocation.Relocation.{Relocation}
 use Rattle.ir_core.specs.declared.target.BinaryFormat.TheVariants.{Elf}
@@ -48,11 +48,11 @@ rows_append place (x ∷ xs) ys =
     let next : place + (length x.name + 1) + names_size xs ≡ place + names_size (x ∷ xs) = omega (arith, sum_by-cons name_size x xs) in
     rw (rows_append (place + (length x.name + 1)) xs ys, next) refl
 
-in_order : (ss : List Symbol) → rows_in_order ss ≡ chosen true ss ++ chosen false ss
+in_order : (ss : List SymbolData) → rows_in_order ss ≡ chosen true ss ++ chosen false ss
 in_order ss = map-append elf_symbol (filter is_local ss) (filter is_global ss)
 
 -- the null row, the local rows and the others are the table
-pub table_bytes : (ss : List Symbol) (padded nulled locals all : List ℕ) (place : ℕ) → nulled ≡ padded ++ replicate 24 0 → locals ≡ nulled ++ flat_map symbol_row_bytes (symbol_rows_from 1 (chosen true ss))
+pub table_bytes : (ss : List SymbolData) (padded nulled locals all : List ℕ) (place : ℕ) → nulled ≡ padded ++ replicate 24 0 → locals ≡ nulled ++ flat_map symbol_row_bytes (symbol_rows_from 1 (chosen true ss))
     → place ≡ 1 + names_size (chosen true ss) → all ≡ locals ++ flat_map symbol_row_bytes (symbol_rows_from place (chosen false ss)) → all ≡ padded ++ (symbol_contents (rows_in_order ss)).bytes
 table_bytes ss padded nulled locals all place n l p a =
     let both : flat_map symbol_row_bytes (symbol_rows_from 1 (rows_in_order ss)) ≡ flat_map symbol_row_bytes (symbol_rows_from 1 (chosen true ss)) ++ flat_map symbol_row_bytes (symbol_rows_from place (chosen false ss)) =
@@ -66,7 +66,7 @@ table_bytes ss padded nulled locals all place n l p a =
     ∙ append_assoc padded (symbol_row_bytes null_symbol) (flat_map symbol_row_bytes (symbol_rows_from 1 (rows_in_order ss)))
 
 -- its names
-pub table_names : (ss : List Symbol) (old zero locals all : List ℕ) → zero ≡ old ++ 0 ∷ [] → locals ≡ zero ++ chosen_names true ss → all ≡ locals ++ chosen_names false ss → all ≡ old ++ string_bytes_of (row_names (rows_in_order ss))
+pub table_names : (ss : List SymbolData) (old zero locals all : List ℕ) → zero ≡ old ++ 0 ∷ [] → locals ≡ zero ++ chosen_names true ss → all ≡ locals ++ chosen_names false ss → all ≡ old ++ string_bytes_of (row_names (rows_in_order ss))
 unfolding string_bytes_of
 table_names ss old zero locals all z l a =
     let both : flat_map with_zero (row_names (rows_in_order ss)) ≡ chosen_names true ss ++ chosen_names false ss =
@@ -129,25 +129,25 @@ file_is t f h body named padded file e s n p r =
 abbrev aligned_8 : List ℕ → Aligned
 aligned_8 bytes = record { align = 8; bytes = bytes }
 
-contents_are : (ss : List Symbol) (xs : List SectionData) → map section_contents (map (elf_section ss) xs) ≡ map contents_at xs
+contents_are : (ss : List SymbolData) (xs : List SectionData) → map section_contents (map (elf_section ss) xs) ≡ map contents_at xs
 contents_are ss [] = refl
 contents_are ss (x ∷ xs) = ap (λ l. contents_at x ∷ l) (contents_are ss xs)
 
-record_is : (ss : List Symbol) (rows : List ℕ) (r : Relocation) → AreRowsOf rows ss → r.symbol < length ss → record_for (elf_relocation ss r) ≡ record_by rows r
+record_is : (ss : List SymbolData) (rows : List ℕ) (r : Relocation) → AreRowsOf rows ss → r.symbol < length ss → record_for (elf_relocation ss r) ≡ record_by rows r
 record_is ss rows r a h = let row : slice_index rows r.symbol ≡ row_in ss r.symbol = get_or_from_slice_get rows r.symbol (row_in ss r.symbol) 0 (a r.symbol h) in rw row refl
 
-records_are : (ss : List Symbol) (rows : List ℕ) (rs : List Relocation) → AreRowsOf rows ss → NameSymbols (length ss) rs → flat_map (λ r. relocation_row_bytes (record_for r)) (map (elf_relocation ss) rs) ≡ record_bytes_by rows rs
+records_are : (ss : List SymbolData) (rows : List ℕ) (rs : List Relocation) → AreRowsOf rows ss → NameSymbols (length ss) rs → flat_map (λ r. relocation_row_bytes (record_for r)) (map (elf_relocation ss) rs) ≡ record_bytes_by rows rs
 records_are ss rows [] a h = refl
 records_are ss rows (r ∷ rs) a h =
     ap (λ x. relocation_row_bytes x ++ flat_map (λ y. relocation_row_bytes (record_for y)) (map (elf_relocation ss) rs)) (record_is ss rows r a (h 0 r refl))
     ∙ ap (λ l. relocation_row_bytes (record_by rows r) ++ l) (records_are ss rows rs a (λ k x e. h (suc k) x e))
 
-relocated_past : (ss : List Symbol) (rows : List ℕ) (s : SectionData) (ts : List ElfTableSection) (us : List SectionData) (b : Bool) → relocation_contents (elf_section ss s) ≡ records_at rows s
+relocated_past : (ss : List SymbolData) (rows : List ℕ) (s : SectionData) (ts : List ElfTableSection) (us : List SectionData) (b : Bool) → relocation_contents (elf_section ss s) ≡ records_at rows s
     → map relocation_contents ts ≡ map (records_at rows) us → map relocation_contents (cond b (elf_section ss s ∷ ts) ts) ≡ map (records_at rows) (cond b (s ∷ us) us)
 relocated_past ss rows s ts us true e h = ap (λ c. c ∷ map relocation_contents ts) e ∙ ap (λ l. records_at rows s ∷ l) h
 relocated_past ss rows s ts us false e h = h
 
-relocated_are : (ss : List Symbol) (rows : List ℕ) (xs : List SectionData) → AreRowsOf rows ss → ((k : ℕ) (s : SectionData) → slice_get xs k ≡ Some s → NameSymbols (length ss) s.relocations)
+relocated_are : (ss : List SymbolData) (rows : List ℕ) (xs : List SectionData) → AreRowsOf rows ss → ((k : ℕ) (s : SectionData) → slice_get xs k ≡ Some s → NameSymbols (length ss) s.relocations)
     → map relocation_contents (filter is_relocated (map (elf_section ss) xs)) ≡ map (records_at rows) (filter has_relocations xs)
 relocated_are ss rows [] a h = refl
 relocated_are ss rows (x ∷ xs) a h =
@@ -216,10 +216,10 @@ header_is_of o machine flags start count m f s n = rw (m, f, s, n, machine_is o,
 
 -- ---- where the pieces end
 
-length-in_order : (ss : List Symbol) → length (rows_in_order ss) ≡ length ss
+length-in_order : (ss : List SymbolData) → length (rows_in_order ss) ≡ length ss
 length-in_order ss = omega (arith, ap length (in_order ss), length-append (chosen true ss) (chosen false ss), chosen_counts ss)
 
-length-table : (ss : List Symbol) → length (symbol_contents (rows_in_order ss)).bytes ≡ 24 * (length ss + 1)
+length-table : (ss : List SymbolData) → length (symbol_contents (rows_in_order ss)).bytes ≡ 24 * (length ss + 1)
 length-table ss =
     omega (arith, length-rows symbol_row_bytes 24 length-symbol_row_bytes (null_symbol ∷ symbol_rows_from 1 (rows_in_order ss)), length-symbol_rows_from 1 (rows_in_order ss), length-in_order ss)
 

@@ -8,7 +8,7 @@ use Rattle.std.proofs.lemmas.List.Sums.{fold-append}
 use Rattle.std.proofs.lemmas.List.FromFn.{length-enumerate_from}
 use Rattle.std.proofs.lemmas.Option.{get_or_from_slice_get, slice_get-get_or}
 use Rattle.byte_core.proofs.Lists.{get_map, get_within, get_exists, below_or_here}
-use Rattle.object_core.specs.declared.symbol.Symbol.{Symbol}
+use Rattle.object_core.specs.Object.{SymbolData}
 use Rattle.object_core.specs.Object.{ObjectData}
 use Rattle.object_core.specs.ElfRows.{elf_table_of, row_in}
 use Rattle.object_elf.specs.Layout.{Part, parts_of, start_after, end_after, end_of_parts, file_length}
@@ -71,13 +71,13 @@ index_first (y ∷ xs) (suc k) x rest e = index_first xs k x rest e
 
 -- ---- rows of symbols
 
-pub length-rows_of : (ss : List Symbol) → length (rows_of ss) ≡ length ss
+pub length-rows_of : (ss : List SymbolData) → length (rows_of ss) ≡ length ss
 length-rows_of ss = length-map (enumerate_from 0 ss) (row_of ss) ∙ length-enumerate_from 0 ss
 
-row_is : (ss : List Symbol) (k : ℕ) (s : Symbol) → slice_get ss k ≡ Some s → slice_get (rows_of ss) k ≡ Some (row_in ss k)
+row_is : (ss : List SymbolData) (k : ℕ) (s : SymbolData) → slice_get ss k ≡ Some s → slice_get (rows_of ss) k ≡ Some (row_in ss k)
 row_is ss k s e = get_map (row_of ss) (enumerate_from 0 ss) k (k, s) (let z : 0 + k ≡ k = omega arith in rw z at (get_numbered {X = Symbol} 0 ss k s e))
 
-pub rows_are_rows : (ss : List Symbol) → AreRowsOf (rows_of ss) ss
+pub rows_are_rows : (ss : List SymbolData) → AreRowsOf (rows_of ss) ss
 rows_are_rows ss k h = let s = get_exists ss k h in row_is ss k s.0 s.1
 
 -- ---- places of parts
@@ -101,10 +101,10 @@ places_are ps = starts_are ps 0 64 ps refl refl
 
 -- ---- a plan that was counted
 
-row_read : (rows : List ℕ) (ss : List Symbol) (k : ℕ) (s : Symbol) → AreRowsOf rows ss → slice_get ss k ≡ Some s → get_or rows k 0 ≡ get_or (rows_of ss) k 0
+row_read : (rows : List ℕ) (ss : List SymbolData) (k : ℕ) (s : SymbolData) → AreRowsOf rows ss → slice_get ss k ≡ Some s → get_or rows k 0 ≡ get_or (rows_of ss) k 0
 row_read rows ss k s a e = get_or_from_slice_get rows k (row_in ss k) 0 (a k (get_within ss k s e)) ∙ sym (get_or_from_slice_get (rows_of ss) k (row_in ss k) 0 (row_is ss k s e))
 
-pub rows_are : (rows : List ℕ) (ss : List Symbol) → length rows ≡ length ss → AreRowsOf rows ss → rows ≡ rows_of ss
+pub rows_are : (rows : List ℕ) (ss : List SymbolData) → length rows ≡ length ss → AreRowsOf rows ss → rows ≡ rows_of ss
 rows_are rows ss n a =
     ext_get_or 0 rows (rows_of ss) (n ∙ sym (length-rows_of ss)) (λ k h. let s = get_exists ss k (omega (arith, h, n)) in row_read rows ss k s.0 a s.1)
 
@@ -124,13 +124,13 @@ counted o rows places old end size n a e p s =
 -- ---- rows that are compared
 
 -- rows that are kept are read as those of the symbols
-pub row_kept : (rows : List ℕ) (ss : List Symbol) (k : ℕ) (s : Symbol) → slice_get ss k ≡ Some s → rows ≡ rows_of ss → get_or rows k 0 ≡ row_in ss k
+pub row_kept : (rows : List ℕ) (ss : List SymbolData) (k : ℕ) (s : SymbolData) → slice_get ss k ≡ Some s → rows ≡ rows_of ss → get_or rows k 0 ≡ row_in ss k
 row_kept rows ss k s g e = ap (λ l. get_or l k 0) e ∙ get_or_from_slice_get (rows_of ss) k (row_in ss k) 0 (row_is ss k s g)
 
-kept_to : (rows : List ℕ) (ss : List Symbol) (i k : ℕ) → ((j : ℕ) → j < i → slice_get rows j ≡ Some (row_in ss j)) → slice_get rows i ≡ Some (row_in ss i) → (k < i) ⊎ (i ≡ k) → slice_get rows k ≡ Some (row_in ss k)
+kept_to : (rows : List ℕ) (ss : List SymbolData) (i k : ℕ) → ((j : ℕ) → j < i → slice_get rows j ≡ Some (row_in ss j)) → slice_get rows i ≡ Some (row_in ss i) → (k < i) ⊎ (i ≡ k) → slice_get rows k ≡ Some (row_in ss k)
 kept_to rows ss i k before here (inl h) = before k h
 kept_to rows ss i k before here (inr same) = rw (← same) here
 
 -- one more row is right
-pub kept_more : (rows : List ℕ) (ss : List Symbol) (i : ℕ) → i < length rows → ((j : ℕ) → j < i → slice_get rows j ≡ Some (row_in ss j)) → get_or rows i 0 ≡ row_in ss i → (k : ℕ) → k < i + 1 → slice_get rows k ≡ Some (row_in ss k)
+pub kept_more : (rows : List ℕ) (ss : List SymbolData) (i : ℕ) → i < length rows → ((j : ℕ) → j < i → slice_get rows j ≡ Some (row_in ss j)) → get_or rows i 0 ≡ row_in ss i → (k : ℕ) → k < i + 1 → slice_get rows k ≡ Some (row_in ss k)
 kept_more rows ss i room before here k h = kept_to rows ss i k before (slice_get-get_or rows i 0 room ∙ ap (λ r. Some r) here) (below_or_here k i h)

@@ -3,28 +3,28 @@ use Rattle.std.proofs.Common.{◌≡◌, ℕ, ◌+◌, ◌*◌, ◌<◌, ◌≤�
 use Rattle.std.specs.Prelude.{flat_map}
 use Rattle.std.proofs.lemmas.List.{drop_all}
 use Rattle.std.proofs.lemmas.List.Sums.{sum_by-cons}
-use Rattle.object_core.specs.declared.symbol.Symbol.{Symbol}
+use Rattle.object_core.specs.Object.{SymbolData}
 use Rattle.object_core.specs.LinkTable.{ElfTableSymbol}
 use Rattle.object_core.specs.ElfRows.{elf_symbol}
 use Rattle.object_elf.specs.File.{symbol_row_with, symbol_row_bytes, symbol_rows_from}
 use Rattle.object_elf.specs.Writing.{is_chosen, chosen, name_size, names_size}
 use Rattle.byte_core.proofs.Lists.{item_drop}
 
-chosen_cons : (local : Bool) (s : Symbol) (ss : List Symbol) → is_chosen local s ≡ true → chosen local (s ∷ ss) ≡ elf_symbol s ∷ chosen local ss
+chosen_cons : (local : Bool) (s : SymbolData) (ss : List SymbolData) → is_chosen local s ≡ true → chosen local (s ∷ ss) ≡ elf_symbol s ∷ chosen local ss
 chosen_cons local s ss t = rw t refl
 
-passed_cons : (local : Bool) (s : Symbol) (ss : List Symbol) → is_chosen local s ≡ false → chosen local (s ∷ ss) ≡ chosen local ss
+passed_cons : (local : Bool) (s : SymbolData) (ss : List SymbolData) → is_chosen local s ≡ false → chosen local (s ∷ ss) ≡ chosen local ss
 passed_cons local s ss t = rw t refl
 
 -- the row of the item is the next one
-pub chosen_next : (local : Bool) (ss : List Symbol) (i : ℕ) (s : Symbol) → i < length ss → s ≡ get_or ss i s → is_chosen local s ≡ true → chosen local (drop i ss) ≡ elf_symbol s ∷ chosen local (drop (i + 1) ss)
+pub chosen_next : (local : Bool) (ss : List SymbolData) (i : ℕ) (s : SymbolData) → i < length ss → s ≡ get_or ss i s → is_chosen local s ≡ true → chosen local (drop i ss) ≡ elf_symbol s ∷ chosen local (drop (i + 1) ss)
 chosen_next local ss i s h e t = ap (chosen local) (item_drop ss i s h e) ∙ chosen_cons local s (drop (i + 1) ss) t
 
 -- the item has no row here
-pub chosen_passed : (local : Bool) (ss : List Symbol) (i : ℕ) (s : Symbol) → i < length ss → s ≡ get_or ss i s → is_chosen local s ≡ false → chosen local (drop i ss) ≡ chosen local (drop (i + 1) ss)
+pub chosen_passed : (local : Bool) (ss : List SymbolData) (i : ℕ) (s : SymbolData) → i < length ss → s ≡ get_or ss i s → is_chosen local s ≡ false → chosen local (drop i ss) ≡ chosen local (drop (i + 1) ss)
 chosen_passed local ss i s h e t = ap (chosen local) (item_drop ss i s h e) ∙ passed_cons local s (drop (i + 1) ss) t
 
-pub chosen_none : (local : Bool) (ss : List Symbol) (i : ℕ) → length ss ≤ i → chosen local (drop i ss) ≡ []
+pub chosen_none : (local : Bool) (ss : List SymbolData) (i : ℕ) → length ss ≤ i → chosen local (drop i ss) ≡ []
 chosen_none local ss i h = ap (chosen local) (drop_all i ss h)
 
 abbrev pub rows_bytes : ℕ → List ElfTableSymbol → List ℕ

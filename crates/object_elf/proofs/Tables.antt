@@ -4,7 +4,7 @@ use Rattle.std.specs.Prelude.{filter, count_by, sum_by}
 use Rattle.std.specs.List.{enumerate_from}
 use Rattle.std.proofs.lemmas.List.{length-map, map-append}
 use Rattle.std.proofs.lemmas.List.Sums.{sum_by-cons, sum_by-append, length-filter}
-use Rattle.object_core.specs.declared.symbol.Symbol.{Symbol}
+use Rattle.object_core.specs.Object.{SymbolData}
 use Rattle.object_core.specs.Object.{SectionData, ObjectData, is_local, is_global}
 use Rattle.object_core.specs.ElfRows.{elf_symbol, elf_section, elf_relocation, elf_table_of}
 use Rattle.object_core.specs.LinkTable.{ElfTable, ElfTableSection, ElfTableSymbol}
@@ -19,10 +19,10 @@ use Rattle.object_elf.proofs.RowNumbers.{local_and_global}
 
 -- ---- sections
 
-pub relocated_is : (ss : List Symbol) (s : SectionData) → is_relocated (elf_section ss s) ≡ has_relocations s
+pub relocated_is : (ss : List SymbolData) (s : SectionData) → is_relocated (elf_section ss s) ≡ has_relocations s
 relocated_is ss s = ap (λ n. not (n == 0)) (length-map s.relocations (elf_relocation ss))
 
-pub count_relocated : (ss : List Symbol) (xs : List SectionData) → count_by is_relocated (map (elf_section ss) xs) ≡ count_by has_relocations xs
+pub count_relocated : (ss : List SymbolData) (xs : List SectionData) → count_by is_relocated (map (elf_section ss) xs) ≡ count_by has_relocations xs
 count_relocated ss [] = refl
 count_relocated ss (x ∷ xs) =
     sum_by-cons (λ s. cond (is_relocated s) 1 0) (elf_section ss x) (map (elf_section ss) xs)
@@ -30,22 +30,22 @@ count_relocated ss (x ∷ xs) =
     ∙ ap (λ n. cond (has_relocations x) 1 0 + n) (count_relocated ss xs)
     ∙ sym (sum_by-cons (λ s. cond (has_relocations s) 1 0) x xs)
 
-pub content_parts_are : (ss : List Symbol) (xs : List SectionData) → map content_part (map (elf_section ss) xs) ≡ map content_part_of xs
+pub content_parts_are : (ss : List SymbolData) (xs : List SectionData) → map content_part (map (elf_section ss) xs) ≡ map content_part_of xs
 content_parts_are ss [] = refl
 content_parts_are ss (x ∷ xs) = ap (λ ps. content_part_of x ∷ ps) (content_parts_are ss xs)
 
 abbrev is_relocated_pair : ℕ × ElfTableSection → Bool
 is_relocated_pair s = is_relocated s.1
 
-relocation_part_is : (t : ElfTable) (link n : ℕ) (ss : List Symbol) (s : SectionData) → symbol_table_row t ≡ link → relocation_part t (n, elf_section ss s) ≡ relocation_part_of link (n, s)
+relocation_part_is : (t : ElfTable) (link n : ℕ) (ss : List SymbolData) (s : SectionData) → symbol_table_row t ≡ link → relocation_part t (n, elf_section ss s) ≡ relocation_part_of link (n, s)
 relocation_part_is t link n ss s e = rw (e, length-map s.relocations (elf_relocation ss)) refl
 
-relocation_parts_past : (t : ElfTable) (link n : ℕ) (ss : List Symbol) (s : SectionData) (es : List (ℕ × ElfTableSection)) (ps : List (ℕ × SectionData)) (b : Bool) → symbol_table_row t ≡ link
+relocation_parts_past : (t : ElfTable) (link n : ℕ) (ss : List SymbolData) (s : SectionData) (es : List (ℕ × ElfTableSection)) (ps : List (ℕ × SectionData)) (b : Bool) → symbol_table_row t ≡ link
     → map (relocation_part t) es ≡ map (relocation_part_of link) ps → map (relocation_part t) (cond b ((n, elf_section ss s) ∷ es) es) ≡ map (relocation_part_of link) (cond b ((n, s) ∷ ps) ps)
 relocation_parts_past t link n ss s es ps true e h = ap (λ p. p ∷ map (relocation_part t) es) (relocation_part_is t link n ss s e) ∙ ap (λ l. relocation_part_of link (n, s) ∷ l) h
 relocation_parts_past t link n ss s es ps false e h = h
 
-pub relocation_parts_are : (t : ElfTable) (link n : ℕ) (ss : List Symbol) (xs : List SectionData) → symbol_table_row t ≡ link
+pub relocation_parts_are : (t : ElfTable) (link n : ℕ) (ss : List SymbolData) (xs : List SectionData) → symbol_table_row t ≡ link
     → map (relocation_part t) (filter is_relocated_pair (enumerate_from n (map (elf_section ss) xs))) ≡ relocation_parts_from link n xs
 relocation_parts_are t link n ss [] e = refl
 relocation_parts_are t link n ss (x ∷ xs) e =
@@ -76,7 +76,7 @@ size_cond : (x : SectionData) (b : Bool) → cond b (length x.name + 1 + (length
 size_cond x true = refl
 size_cond x false = omega arith
 
-section_names_are : (ss : List Symbol) (xs : List SectionData)
+section_names_are : (ss : List SymbolData) (xs : List SectionData)
     → names_size (map content_name (map (elf_section ss) xs)) + names_size (map relocation_name (filter is_relocated (map (elf_section ss) xs))) ≡ sum_by section_name_size xs
 section_names_are ss [] = refl
 section_names_are ss (x ∷ xs) =
@@ -124,14 +124,14 @@ section_names_size_is o =
 abbrev symbol_name : ElfTableSymbol → List ℕ
 symbol_name s = s.name
 
-abbrev row_names : List Symbol → List (List ℕ)
+abbrev row_names : List SymbolData → List (List ℕ)
 row_names ss = map symbol_name (map elf_symbol ss)
 
-both_past : (s : Symbol) (ls gs : List Symbol) (b : Bool) → names_size (row_names (cond b (s ∷ ls) ls)) + names_size (row_names (cond (not b) (s ∷ gs) gs)) ≡ length s.name + 1 + (names_size (row_names ls) + names_size (row_names gs))
+both_past : (s : SymbolData) (ls gs : List SymbolData) (b : Bool) → names_size (row_names (cond b (s ∷ ls) ls)) + names_size (row_names (cond (not b) (s ∷ gs) gs)) ≡ length s.name + 1 + (names_size (row_names ls) + names_size (row_names gs))
 both_past s ls gs true = omega (arith, sum_by-cons name_size s.name (row_names ls))
 both_past s ls gs false = omega (arith, sum_by-cons name_size s.name (row_names gs))
 
-both_names : (ss : List Symbol) → names_size (row_names (filter is_local ss)) + names_size (row_names (filter is_global ss)) ≡ sum_by symbol_name_size ss
+both_names : (ss : List SymbolData) → names_size (row_names (filter is_local ss)) + names_size (row_names (filter is_global ss)) ≡ sum_by symbol_name_size ss
 both_names [] = refl
 both_names (s ∷ ss) = omega (arith, both_past s (filter is_local ss) (filter is_global ss) (is_local s), both_names ss, sum_by-cons symbol_name_size s ss)
 
@@ -212,11 +212,11 @@ symbol_part_is o row e = rw (e, symbol_count_is o) refl
 
 -- ---- both kinds of symbols
 
-chosen_past : (s : Symbol) (ls gs : List Symbol) (b : Bool) → rows.names_size (map elf_symbol (cond b (s ∷ ls) ls)) + rows.names_size (map elf_symbol (cond (not b) (s ∷ gs) gs)) ≡ length s.name + 1 + (rows.names_size (map elf_symbol ls) + rows.names_size (map elf_symbol gs))
+chosen_past : (s : SymbolData) (ls gs : List SymbolData) (b : Bool) → rows.names_size (map elf_symbol (cond b (s ∷ ls) ls)) + rows.names_size (map elf_symbol (cond (not b) (s ∷ gs) gs)) ≡ length s.name + 1 + (rows.names_size (map elf_symbol ls) + rows.names_size (map elf_symbol gs))
 chosen_past s ls gs true = omega (arith, sum_by-cons rows.name_size (elf_symbol s) (map elf_symbol ls))
 chosen_past s ls gs false = omega (arith, sum_by-cons rows.name_size (elf_symbol s) (map elf_symbol gs))
 
-pub chosen_sizes : (ss : List Symbol) → rows.names_size (chosen true ss) + rows.names_size (chosen false ss) ≡ sum_by symbol_name_size ss
+pub chosen_sizes : (ss : List SymbolData) → rows.names_size (chosen true ss) + rows.names_size (chosen false ss) ≡ sum_by symbol_name_size ss
 chosen_sizes [] = refl
 chosen_sizes (s ∷ ss) = omega (arith, chosen_past s (filter is_local ss) (filter is_global ss) (is_local s), chosen_sizes ss, sum_by-cons symbol_name_size s ss)
 

@@ -1,11 +1,11 @@
 -- The numbers that are compared with the limits, by the sections and symbols of an object.
 use Rattle.std.specs.Prelude.{ℕ, ◌+◌, length, count_by, sum_by, if◌then◌else◌}
-use Rattle.object_core.specs.declared.symbol.Symbol.{Symbol}
+use Rattle.object_core.specs.Object.{SymbolData}
 use Rattle.object_core.specs.Object.{SectionData, ObjectData}
 use Rattle.object_elf.specs.Counts.{Counts}
 use Rattle.object_elf.specs.Writing.{has_relocations}
 
-abbrev pub symbol_name_size : Symbol → ℕ
+abbrev pub symbol_name_size : SymbolData → ℕ
 symbol_name_size s = length s.name + 1
 
 -- the name of a section, and that of its relocations

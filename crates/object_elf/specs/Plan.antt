@@ -1,7 +1,7 @@
 -- The numbers of an ELF file that are counted before it is written.
 use Rattle.std.specs.Prelude.{◌≡◌, ℕ, List, map}
 use Rattle.std.specs.List.{enumerate_from}
-use Rattle.object_core.specs.declared.symbol.Symbol.{Symbol}
+use Rattle.object_core.specs.Object.{SymbolData}
 use Rattle.object_core.specs.LinkTable.{ElfTable}
 use Rattle.object_core.specs.Object.{ObjectData}
 use Rattle.object_core.specs.ElfRows.{elf_table_of, row_in}
@@ -15,11 +15,11 @@ pub record PlanData : Type 0 where
   pub places : List ℕ
   pub length : ℕ
 
-abbrev pub row_of : List Symbol → ℕ × Symbol → ℕ
+abbrev pub row_of : List SymbolData → ℕ × SymbolData → ℕ
 row_of symbols s = row_in symbols s.0
 
 -- the row of each symbol in the table, in order of creation
-abbrev pub rows_of : List Symbol → List ℕ
+abbrev pub rows_of : List SymbolData → List ℕ
 rows_of symbols = map (row_of symbols) (enumerate_from 0 symbols)
 
 abbrev pub place_of : List Part → ℕ × Part → ℕ

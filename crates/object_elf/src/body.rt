@@ -12,7 +12,7 @@ ghost use Rattle.object_elf.specs.Layout.{end_of_parts, parts_of};
 ghost use Rattle.object_elf.specs.Limits.{IsWithinLimits};
 ghost use Rattle.object_elf.specs.Plan.{rows_of};
 ghost use Rattle.object_elf.specs.PlainCounts.{plain_counts, symbol_name_size};
-ghost use Rattle.object_elf.specs.Writing.{body_of, NumbersFit, contents_at, FitRows, FitSizes, rows_in_order};
+ghost use Rattle.object_elf.specs.Writing.{plain, body_of, NumbersFit, contents_at, FitRows, FitSizes, rows_in_order};
 
 use crate::next_row::NextRow;
 use crate::relocation_rows::place_relocations;
@@ -34,21 +34,21 @@ pub(crate) fn place_body(out: &mut [u8], at: usize, object: &Object, rows: &[u32
     ensures len { length out.new ≡ length out.old }
     ensures numbers { NumbersFit object.now }
 {
-    let sections = object.sections();
-    let at = place_contents(out, at, sections);
-    let at = place_relocations(out, at, sections, rows);
+    let at = place_contents(out, at, object);
+    let at = place_relocations(out, at, object, rows);
     let at = place_symbol_table(out, at, object);
     place_symbol_strings(out, at, object)
 }
 
 /// Writes the bytes of the sections, each at a multiple of its alignment.
-fn place_contents(out: &mut [u8], at: usize, sections: &[Section]) -> usize
-    requires { end_of_aligned at (map contents_at sections.now) ≤ length out.old }
-    ensures contents { LaysOut (take at out.old) (take result out.new) (map contents_at sections.now) }
-    ensures end { result ≡ end_of_aligned at (map contents_at sections.now) }
+fn place_contents(out: &mut [u8], at: usize, object: &Object) -> usize
+    requires { end_of_aligned at (map contents_at (object.now).sections) ≤ length out.old }
+    ensures contents { LaysOut (take at out.old) (take result out.new) (map contents_at (object.now).sections) }
+    ensures end { result ≡ end_of_aligned at (map contents_at (object.now).sections) }
     ensures len { length out.new ≡ length out.old }
-    ensures aligns { (k : ℕ) (s : SectionData) → slice_get sections.now k ≡ Some s → s.align < 2 ^ 64 }
+    ensures aligns { (k : ℕ) (s : SectionData) → slice_get (object.now).sections k ≡ Some s → s.align < 2 ^ 64 }
 {
+    let sections = object.sections();
     let mut end = at;
     for section in sections {
         end = place_padding(out, end, stored_align(section));
@@ -59,7 +59,7 @@ fn place_contents(out: &mut [u8], at: usize, sections: &[Section]) -> usize
 
 /// The alignment of a section's bytes in the file, 1 where it has none.
 fn stored_align(section: &Section) -> u64
-    ensures value { result ≡ (contents_at section.now).align }
+    ensures value { result ≡ (contents_at (plain section.now)).align }
     ensures bound { (section.now).align < 2 ^ 64 }
 {
     let align = section.align();

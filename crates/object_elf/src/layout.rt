@@ -1,8 +1,8 @@
 //! The parts of the file in order, and where they end. Each starts at a multiple of its alignment.
 
-ghost use Rattle.std.specs.Prelude.{◌≡◌, ◌+◌, ◌*◌, ◌≤◌, ◌<◌, ◌^◌, MatchOption, map, length, count_by};
+ghost use Rattle.std.specs.Prelude.{[], ◌≡◌, ◌+◌, ◌*◌, ◌≤◌, ◌<◌, ◌^◌, MatchOption, map, length, count_by};
 ghost use Rattle.object_core.specs.ElfRows.{elf_table_of, elf_section_type, elf_section_flags, retain_flag};
-ghost use Rattle.object_core.specs.Object.{SectionData, is_local};
+ghost use Rattle.object_core.specs.Object.{SectionData, is_local, with_texts};
 ghost use Rattle.object_elf.specs.Layout.{end_after, start_after, note_part, string_part, symbol_part_with, symbol_table_row, table_parts};
 ghost use Rattle.object_elf.specs.PlainCounts.{plain_counts};
 ghost use Rattle.object_elf.specs.Limits.{IsWithinLimits};
@@ -12,7 +12,7 @@ ghost use Rattle.object_elf.specs.PartView.{part_view, content_part_of, relocati
 use crate::limits::{relocated_count, section_names_size, symbol_names_size};
 use crate::symbol_rows::local_count;
 use byte_core::align_up;
-use object_core::{Object, Section, SectionKind, Symbol};
+use object_core::{Object, Section, SectionKind};
 
 /// A section of the file, by the fields of its header but for the places: System V gABI, "Sections".
 #[derive(Clone, Copy)]
@@ -47,11 +47,11 @@ pub(crate) fn stack_note() -> PartHeader<'static>
 }
 
 /// The header row of the symbol table.
-pub(crate) fn row_of_symbol_table(sections: &[Section]) -> u32
-    requires { length sections.now + 2 + count_by has_relocations sections.now < 2 ^ 32 }
-    ensures { result ≡ length sections.now + 2 + count_by has_relocations sections.now }
+pub(crate) fn row_of_symbol_table(object: &Object) -> u32
+    requires { length (object.now).sections + 2 + count_by has_relocations (object.now).sections < 2 ^ 32 }
+    ensures { result ≡ length (object.now).sections + 2 + count_by has_relocations (object.now).sections }
 {
-    (sections.len() + 2 + relocated_count(sections)) as u32
+    (object.sections().len() + 2 + relocated_count(object)) as u32
 }
 
 /// The symbol table in this header row, its string section and that of the sections.
@@ -61,25 +61,25 @@ pub(crate) fn table_parts(object: &Object, table: u32) -> [PartHeader<'static>; 
     ensures { map part_view result ≡ table_parts (elf_table_of object.now) }
 {
     [
-        symbol_part(object.symbols(), table),
+        symbol_part(object, table),
         string_part(b".strtab", symbol_names_size(object) as u64),
         string_part(b".shstrtab", section_names_size(object) as u64),
     ]
 }
 
-fn symbol_part(symbols: &[Symbol], table: u32) -> PartHeader<'static>
-    requires symbols { length symbols.now + 1 < 2 ^ 32 }
+fn symbol_part(object: &Object, table: u32) -> PartHeader<'static>
+    requires symbols { length (object.now).symbols + 1 < 2 ^ 32 }
     requires table { table + 1 < 2 ^ 32 }
-    ensures { part_view result ≡ symbol_part_with table (length symbols.now) (1 + count_by is_local symbols.now) }
+    ensures { part_view result ≡ symbol_part_with table (length (object.now).symbols) (1 + count_by is_local (object.now).symbols) }
 {
     PartHeader {
         prefix: b"",
         name: b".symtab",
         sh_type: 2,
         flags: 0,
-        size: 24 * (symbols.len() as u64 + 1),
+        size: 24 * (object.symbols().len() as u64 + 1),
         link: table + 1,
-        info: 1 + local_count(symbols) as u32,
+        info: 1 + local_count(object) as u32,
         align: 8,
         entsize: 24,
     }
@@ -123,9 +123,8 @@ pub(crate) fn end_behind(end: u64, part: &PartHeader<'_>) -> Option<u64>
 
 /// The part of a section of this name.
 pub(crate) fn content_part<'a>(section: &Section, name: &'a [u8]) -> PartHeader<'a>
-    requires name { name.now ≡ (section.now).name }
-    requires size { (section.now).size < 2 ^ 64 }
-    ensures { part_view result ≡ content_part_of section.now }
+    requires { (section.now).size < 2 ^ 64 }
+    ensures { part_view result ≡ content_part_of (with_texts [] name.now section.now) }
 {
     PartHeader {
         prefix: b"",

@@ -1,7 +1,8 @@
 //! The limits of the format, which are this project's own choice.
 
-ghost use Rattle.std.specs.Prelude.{◌≡◌, ◌+◌, ◌<◌, ◌≤◌, ◌^◌, IsOk, length, count_by, sum_by};
-ghost use Rattle.object_elf.specs.Writing.{has_relocations};
+ghost use Rattle.std.specs.Prelude.{[], ◌≡◌, ◌+◌, ◌<◌, ◌≤◌, ◌^◌, IsOk, length, count_by, sum_by};
+ghost use Rattle.object_core.specs.Object.{with_texts};
+ghost use Rattle.object_elf.specs.Writing.{has_relocations, plain};
 ghost use Rattle.object_elf.specs.Limits.{IsJudged, IsWithinLimits};
 ghost use Rattle.object_elf.specs.PlainCounts.{plain_counts, symbol_name_size, section_name_size};
 
@@ -22,12 +23,11 @@ pub(crate) fn check_limits(object: &Object) -> Result<(), EmitError>
     ensures within { IsWithinLimits (plain_counts object.now) → IsOk result }
 {
     let sections = object.sections();
-    let symbols = object.symbols();
-    let rows = sections.len() as u128 + relocated_count(sections) as u128 + 5;
+    let rows = sections.len() as u128 + relocated_count(object) as u128 + 5;
     if rows >= SECTIONS {
         return Err(too_many_sections(rows));
     }
-    let count = symbols.len() as u64 + 1;
+    let count = object.symbols().len() as u64 + 1;
     if count >= SYMBOLS {
         let what = What::Symbols;
         return Err(EmitError::TooMany { what, count });
@@ -60,17 +60,19 @@ fn too_many_sections(rows: u128) -> EmitError
 }
 
 /// How many sections have relocations.
-pub(crate) fn relocated_count(sections: &[Section]) -> usize
-    ensures { result ≡ count_by has_relocations sections.now }
+#[tactic(auto, using(crate::proofs::Items::count_relocated))]
+pub(crate) fn relocated_count(object: &Object) -> usize
+    ensures { result ≡ count_by has_relocations (object.now).sections }
 {
-    sections
+    object
+        .sections()
         .iter()
         .filter(|section| has_relocations(section))
         .count()
 }
 
 pub(crate) fn has_relocations(section: &Section) -> bool
-    ensures { result ≡ has_relocations section.now }
+    ensures { result ≡ has_relocations (plain section.now) }
 {
     !section.relocations().is_empty()
 }
@@ -104,8 +106,7 @@ pub(crate) fn section_names_size(object: &Object) -> u128
 }
 
 fn section_name_size(section: &Section, name: &[u8]) -> u128
-    requires { name.now ≡ (section.now).name }
-    ensures value { result ≡ section_name_size section.now }
+    ensures value { result ≡ section_name_size (with_texts [] name.now section.now) }
     ensures bound { result < 2 ^ 66 }
 {
     let size = name.len() as u128;

@@ -1,17 +1,16 @@
 //! The names of an object's sections and symbols.
 
 ghost use Rattle.std.specs.Prelude.{◌≡◌, ◌<◌, length, slice_get, Some};
-ghost use Rattle.object_core.specs.declared.symbol.Symbol.{Symbol};
-ghost use Rattle.object_core.specs.Object.{SectionData};
+ghost use Rattle.object_core.specs.Object.{SymbolData, SectionData};
 
-use object_core::Object;
+use object_core::{Object, SectionId, SymbolId};
 
 /// The name of the symbol of this number.
 pub(crate) fn symbol_name(object: &Object, number: usize) -> &[u8]
     requires { number < length (object.now).symbols }
-    ensures { (s : Symbol) → slice_get (object.now).symbols number ≡ Some s → result.now ≡ s.name }
+    ensures { (s : SymbolData) → slice_get (object.now).symbols number ≡ Some s → result.now ≡ s.name }
 {
-    object.symbols()[number].name.as_slice()
+    object.symbol_name(SymbolId::from_number(number))
 }
 
 /// The name of the section of this number.
@@ -19,5 +18,5 @@ pub(crate) fn section_name(object: &Object, number: usize) -> &[u8]
     requires { number < length (object.now).sections }
     ensures { (s : SectionData) → slice_get (object.now).sections number ≡ Some s → result.now ≡ s.name }
 {
-    object.sections()[number].name()
+    object.section_name(SectionId::from_number(number))
 }

@@ -60,7 +60,7 @@ fn counted_plan(alloc: Global, object: &Object) -> Result<ElfPlan, AllocError>
     requires { IsWithinLimits (plain_counts object.now) }
     ensures { IfOk result (λ plan. plan ≡ plan_of object.now) }
 {
-    let rows = rows_of_symbols(alloc, object.symbols())?;
+    let rows = rows_of_symbols(alloc, object)?;
     let mut places = Vec::new(alloc);
     let end = push_all_places(&mut places, object)?;
     let length = file_length(end, places.len() as u64).ok_or(AllocError)?;
@@ -84,7 +84,7 @@ fn push_all_places(places: &mut Vec<u64>, object: &Object) -> Result<u64, AllocE
     requires { IsWithinLimits (plain_counts object.now) }
     ensures { IfOk result (λ end. PushesPlaces places.old.items places.new.items 64 end (parts_of (elf_table_of object.now))) }
 {
-    let table = row_of_symbol_table(object.sections());
+    let table = row_of_symbol_table(object);
     let end = push_content_places(places, 64, object)?;
     let end = push_places(places, end, &[stack_note()])?;
     let end = push_relocation_places(places, end, object, table)?;
@@ -167,7 +167,7 @@ impl ElfPlan {
         if check_limits(object).is_err() {
             return false;
         }
-        if !has_rows(self.rows(), object.symbols()) {
+        if !has_rows(self.rows(), object) {
             return false;
         }
         let length = self.len();

@@ -15,19 +15,20 @@ use crate::layout::{
 use crate::object_names::section_name;
 use crate::plan::{file_length, records_size};
 use crate::symbol_rows::{is_local, local_count};
-use object_core::{Object, Symbol};
+use object_core::Object;
 
 /// The rows are those of the symbols.
-pub(crate) fn has_rows(rows: &[u32], symbols: &[Symbol]) -> bool
-    requires { length symbols.now + 1 < 2 ^ 32 }
-    ensures yes { result ≡ true → rows.now ≡ rows_of symbols.now }
-    ensures no { result ≡ false → rows.now ≡ rows_of symbols.now → ⊥ }
+pub(crate) fn has_rows(rows: &[u32], object: &Object) -> bool
+    requires { length (object.now).symbols + 1 < 2 ^ 32 }
+    ensures yes { result ≡ true → rows.now ≡ rows_of (object.now).symbols }
+    ensures no { result ≡ false → rows.now ≡ rows_of (object.now).symbols → ⊥ }
 {
+    let symbols = object.symbols();
     if rows.len() != symbols.len() {
         return false;
     }
     let mut local: u32 = 1;
-    let mut other = 1 + local_count(symbols) as u32;
+    let mut other = 1 + local_count(object) as u32;
     for (k, symbol) in symbols.iter().enumerate() {
         if is_local(symbol) {
             if rows[k] != local {
@@ -50,7 +51,7 @@ pub(crate) fn length_at(places: &[u64], object: &Object) -> Option<u64>
     requires { IsWithinLimits (plain_counts object.now) }
     ensures { MatchOption result (places.now ≡ places_of (parts_of (elf_table_of object.now)) → 2 ^ 64 ≤ file_length (elf_table_of object.now)) (λ length. HasPlaces places.now length (elf_table_of object.now)) }
 {
-    let table = row_of_symbol_table(object.sections());
+    let table = row_of_symbol_table(object);
     if places.len() != table as usize + 2 {
         return None;
     }

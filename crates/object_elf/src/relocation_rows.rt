@@ -10,17 +10,18 @@ ghost use Rattle.object_elf.specs.Writing.{AreRowsOf, NameSymbols, FitsRecord, F
 
 use crate::symbol_rows::{is_local, local_count};
 use byte_core::{Field, place_fields, place_padding};
-use object_core::{Relocation, RelocationFlags, Section, Symbol};
+use object_core::{Object, Relocation, RelocationFlags};
 use std::alloc::{AllocError, Global};
 
 /// The row of each symbol in the table, by the symbol's number.
-pub(crate) fn rows_of_symbols(alloc: Global, symbols: &[Symbol]) -> Result<Vec<u32>, AllocError>
-    requires { length symbols.now + 1 < 2 ^ 32 }
-    ensures count { IfOk result (λ rows. length rows.items ≡ length symbols.now) }
-    ensures rows { IfOk result (λ rows. AreRowsOf rows.items symbols.now) }
+pub(crate) fn rows_of_symbols(alloc: Global, object: &Object) -> Result<Vec<u32>, AllocError>
+    requires { length (object.now).symbols + 1 < 2 ^ 32 }
+    ensures count { IfOk result (λ rows. length rows.items ≡ length (object.now).symbols) }
+    ensures rows { IfOk result (λ rows. AreRowsOf rows.items (object.now).symbols) }
 {
+    let symbols = object.symbols();
     let mut local: u32 = 1;
-    let mut other = 1 + local_count(symbols) as u32;
+    let mut other = 1 + local_count(object) as u32;
     let mut rows = Vec::with_capacity(alloc, symbols.len())?;
     for symbol in symbols {
         if is_local(symbol) {
@@ -38,16 +39,17 @@ pub(crate) fn rows_of_symbols(alloc: Global, symbols: &[Symbol]) -> Result<Vec<u
 pub(crate) fn place_relocations(
     out: &mut [u8],
     at: usize,
-    sections: &[Section],
+    object: &Object,
     rows: &[u32],
 ) -> usize
-    requires names { (k : ℕ) (s : SectionData) → slice_get sections.now k ≡ Some s → NameSymbols (length rows.now) s.relocations }
-    requires room { end_of_aligned at (map (records_at rows.now) (filter has_relocations sections.now)) ≤ length out.old }
-    ensures records { LaysOut (take at out.old) (take result out.new) (map (records_at rows.now) (filter has_relocations sections.now)) }
-    ensures end { result ≡ end_of_aligned at (map (records_at rows.now) (filter has_relocations sections.now)) }
+    requires names { (k : ℕ) (s : SectionData) → slice_get (object.now).sections k ≡ Some s → NameSymbols (length rows.now) s.relocations }
+    requires room { end_of_aligned at (map (records_at rows.now) (filter has_relocations (object.now).sections)) ≤ length out.old }
+    ensures records { LaysOut (take at out.old) (take result out.new) (map (records_at rows.now) (filter has_relocations (object.now).sections)) }
+    ensures end { result ≡ end_of_aligned at (map (records_at rows.now) (filter has_relocations (object.now).sections)) }
     ensures len { length out.new ≡ length out.old }
-    ensures fit { (k : ℕ) (s : SectionData) → slice_get sections.now k ≡ Some s → FitRecords s.relocations }
+    ensures fit { (k : ℕ) (s : SectionData) → slice_get (object.now).sections k ≡ Some s → FitRecords s.relocations }
 {
+    let sections = object.sections();
     let mut end = at;
     for section in sections {
         if section.relocations().is_empty() {

@@ -46,9 +46,8 @@ pub(crate) fn place_section_rows(
     ensures end { result ≡ at + 64 * (length (parts_of (elf_table_of object.now)) + 1) }
     ensures len { length out.new ≡ length out.old }
 {
-    let sections = object.sections();
-    let count = sections.len();
-    let table = row_of_symbol_table(sections);
+    let count = object.sections().len();
+    let table = row_of_symbol_table(object);
     let at = place_section_row(out, at, &NO_PART, 0, 0);
     let first = NextRow { at, name: 1 };
     let note = place_content_rows(out, first, object, places);

@@ -1,10 +1,10 @@
 //! Rows of the symbol table: System V gABI, "Symbol Table".
 
-ghost use Rattle.std.specs.Prelude.{◌≡◌, ◌+◌, ◌*◌, ◌<◌, ◌≤◌, ◌^◌, ◌++◌, take, length, flat_map, count_by};
-ghost use Rattle.object_core.specs.Object.{is_local, is_in_section};
+ghost use Rattle.std.specs.Prelude.{[], ◌≡◌, ◌+◌, ◌*◌, ◌<◌, ◌≤◌, ◌^◌, ◌++◌, take, length, flat_map, count_by};
+ghost use Rattle.object_core.specs.Object.{is_local, is_local_symbol, is_in_section, named};
 ghost use Rattle.object_core.specs.ElfRows.{elf_binding, elf_symbol_type, elf_other, elf_shndx, elf_symbol};
 ghost use Rattle.object_elf.specs.File.{symbol_row_with, symbol_row_bytes, symbol_rows_from};
-ghost use Rattle.object_elf.specs.Writing.{is_chosen, chosen, names_size, FitsRow, FitRows, FitSizes};
+ghost use Rattle.object_elf.specs.Writing.{is_chosen_symbol, chosen, names_size, FitsRow, FitRows, FitSizes};
 
 use crate::next_row::NextRow;
 use crate::object_names::symbol_name;
@@ -13,7 +13,7 @@ use object_core::{Object, Symbol, SymbolKind, SymbolScope, SymbolSection};
 
 /// The symbol stands before those that aren't local.
 pub(crate) fn is_local(symbol: &Symbol) -> bool
-    ensures { result ≡ is_local symbol.now }
+    ensures { result ≡ is_local_symbol symbol.now }
 {
     match symbol.kind {
         SymbolKind::File | SymbolKind::Label => true,
@@ -23,7 +23,7 @@ pub(crate) fn is_local(symbol: &Symbol) -> bool
 
 /// The symbol is local, or it is one of the others.
 pub(crate) fn is_chosen(symbol: &Symbol, local: bool) -> bool
-    ensures { result ≡ is_chosen local symbol.now }
+    ensures { result ≡ is_chosen_symbol local symbol.now }
 {
     if local {
         is_local(symbol)
@@ -33,10 +33,11 @@ pub(crate) fn is_chosen(symbol: &Symbol, local: bool) -> bool
 }
 
 /// How many symbols are local.
-pub(crate) fn local_count(symbols: &[Symbol]) -> usize
-    ensures { result ≡ count_by is_local symbols.now }
+#[tactic(auto, using(crate::proofs::Items::count_locals))]
+pub(crate) fn local_count(object: &Object) -> usize
+    ensures { result ≡ count_by is_local (object.now).symbols }
 {
-    symbols.iter().filter(|symbol| is_local(symbol)).count()
+    object.symbols().iter().filter(|symbol| is_local(symbol)).count()
 }
 
 /// Writes the rows of the local symbols, or of the others. Their names stand one after the other.
@@ -69,9 +70,9 @@ pub(crate) fn place_symbol_rows(
 }
 
 fn place_symbol_row(out: &mut [u8], at: usize, symbol: &Symbol, name: u32) -> usize
-    requires fits { FitsRow symbol.now }
+    requires fits { FitsRow (named [] symbol.now) }
     requires room { at + 24 ≤ length out.old }
-    ensures row { take result out.new ≡ take at out.old ++ symbol_row_bytes (symbol_row_with name (elf_symbol symbol.now)) }
+    ensures row { take result out.new ≡ take at out.old ++ symbol_row_bytes (symbol_row_with name (elf_symbol (named [] symbol.now))) }
     ensures end { result ≡ at + 24 }
     ensures len { length out.new ≡ length out.old }
     ensures size { (symbol.now).size < 2 ^ 64 }
@@ -126,7 +127,7 @@ fn symbol_type(symbol: &Symbol) -> u8
 
 /// STV_DEFAULT 0 or STV_HIDDEN 2.
 fn other(symbol: &Symbol) -> u8
-    ensures { result ≡ elf_other (symbol.now).scope (is_local symbol.now) (symbol.now).weak }
+    ensures { result ≡ elf_other (symbol.now).scope (is_local_symbol symbol.now) (symbol.now).weak }
 {
     match symbol.scope {
         SymbolScope::Linkage => {
@@ -154,8 +155,8 @@ fn section_row(symbol: &Symbol) -> u16
 
 /// The offset in its section, in bytes, 0 where it has none.
 fn value(symbol: &Symbol) -> u64
-    requires { (elf_symbol symbol.now).value < 2 ^ 64 }
-    ensures { result ≡ (elf_symbol symbol.now).value }
+    requires { (elf_symbol (named [] symbol.now)).value < 2 ^ 64 }
+    ensures { result ≡ (elf_symbol (named [] symbol.now)).value }
 {
     if is_in_section(symbol) {
         symbol.value as u64

@@ -1,5 +1,5 @@
 use Rattle.std.proofs.Common.{◌≡◌, ◌<◌, ◌^◌, ◌+◌, arith, length, sym, ◌∙◌, ap, true}
-use Rattle.object_core.specs.declared.symbol.Symbol.{Symbol}
+use Rattle.object_core.specs.Object.{SymbolData}
 use Rattle.object_elf.specs.Writing.{is_chosen}
 use Rattle.byte_core.proofs.Lists.{item_get, each_more, each_all}
 use Rattle.object_elf.proofs.SymbolLoops.{chosen_next, chosen_passed, chosen_none, rows_more, rows_all, rows_end_more, rows_room, names_more, names_room, passed_rows, passed_names, passed_ends, not_chosen}
@@ -19,7 +19,7 @@ loop-k-preserved-then-not-is_chosen c =
       at = passed_ends _ _ _ _ same c.loop-k.invariant.at;
       names = passed_names _ _ _ _ same c.loop-k.invariant.names;
       len = c.loop-k.invariant.len;
-      sizes = each_more (λ (x : Symbol). is_chosen c.args.local x ≡ true → x.size < 2 ^ 64) o.symbols c.loop-k.k s h is c.loop-k.invariant.sizes (λ passes. not_chosen fails passes);
+      sizes = each_more (λ (x : SymbolData). is_chosen c.args.local x ≡ true → x.size < 2 ^ 64) o.symbols c.loop-k.k s h is c.loop-k.invariant.sizes (λ passes. not_chosen fails passes);
     }
 
 pub place_symbol_row-at-requires-clause-fits : goal.place_symbol_row-at-requires-clause-fits
@@ -52,7 +52,7 @@ loop-k-preserved c =
       at = rows_end_more _ _ _ _ _ _ next c.place_symbol_row-at.ensures.end c.loop-k.invariant.at;
       names = names_more _ _ _ _ _ _ next place c.loop-k.invariant.names;
       len = c.place_symbol_row-at.ensures.len ∙ c.loop-k.invariant.len;
-      sizes = each_more (λ (x : Symbol). is_chosen c.args.local x ≡ true → x.size < 2 ^ 64) o.symbols c.loop-k.k s h is c.loop-k.invariant.sizes (λ _. c.place_symbol_row-at.ensures.size);
+      sizes = each_more (λ (x : SymbolData). is_chosen c.args.local x ≡ true → x.size < 2 ^ 64) o.symbols c.loop-k.k s h is c.loop-k.invariant.sizes (λ _. c.place_symbol_row-at.ensures.size);
     }
 
 pub returns-clause-rows : goal.returns-clause-rows
@@ -60,7 +60,7 @@ returns-clause-rows c = rows_all _ _ _ _ (chosen_none c.args.local c.args.object
 
 pub returns-clause-sizes : goal.returns-clause-sizes
 returns-clause-sizes c =
-    each_all (λ (x : Symbol). is_chosen c.args.local x ≡ true → x.size < 2 ^ 64) c.args.object.now.symbols c.loop-k.k (rw c.symbols-symbols.ensures.value at c.loop-k-test.false) c.loop-k.invariant.sizes
+    each_all (λ (x : SymbolData). is_chosen c.args.local x ≡ true → x.size < 2 ^ 64) c.args.object.now.symbols c.loop-k.k (rw c.symbols-symbols.ensures.value at c.loop-k-test.false) c.loop-k.invariant.sizes
 
 -- the place behind the name is one of the string section
 place : (c : goal.After-symbol_name) → c.loop-k.name + (length c.symbol_name.result.now + 1) < 2 ^ 32

@@ -1,6 +1,5 @@
-use Rattle.std.proofs.Common.{◌≤◌, length, ap, subst, arith}
+use Rattle.std.proofs.Common.{◌≤◌, length, ap, arith}
 use Rattle.cranelift_object.specs.Opened.{OpenModule}
-use Rattle.cranelift_object.specs.Kept.{IsModule}
 use Rattle.cranelift_object.proofs.DefineLaws.{all_added}
 use Rattle.cranelift_object.proofs.backend.ObjectModule.add_definitions.Goals as goal
 

@@ -1,16 +1,29 @@
-use Rattle.std.proofs.Common.{ap}
-use Rattle.object_core.specs.Object.{SectionData}
+use Rattle.std.proofs.Common.{ap, refl, arith}
+use Rattle.object_core.specs.Object.{ObjectData}
 use Rattle.object_core.specs.Appending.{relocated}
 use Rattle.object_core.specs.contracts.object.Object.{the_view}
+use Rattle.object_core.proofs.ObjectNames.{section_here, found_is, set_section, names_set_section}
 use Rattle.object_core.proofs.Sections.{sound_relocated, changed_section}
 use Rattle.object_core.proofs.Standards.{kept_set}
 use Rattle.object_core.proofs.object.Object.add_relocation.Goals as goal
 
+pub index_mut-requires : goal.index_mut-requires
+index_mut-requires c = omega (arith, (section_here _ _ _ _ _ c.self.invariant.names _ _ _ (ap (λ (o : ObjectData). o.sections) c.self.view_is) c.as_number.ensures c.requires), c.self.inside.sections.ok.0)
+
 pub returns-clause-ok : goal.returns-clause-ok
-returns-clause-ok c = changed_section (the_view c.self.inside) _ (relocated c.args.relocation) _ _ _ _ c.self.view_is c.as_number.ensures c.in_ok-add_relocation.ensures.ok c.index_mut.ensures.value
+returns-clause-ok c =
+    let below = (section_here _ _ _ _ _ c.self.invariant.names _ _ _ (ap (λ (o : ObjectData). o.sections) c.self.view_is) c.as_number.ensures c.requires) in
+    let at = found_is _ _ _ _ _ c.self.invariant.names _ _ below c.index_mut.ensures.value in
+    rw (set_section _ _ _ _ _ c.self.invariant.names (relocated c.args.relocation) _ _ _ (λ segment name b. refl) below c.index_mut.ensures.value c.in_ok-add_relocation.ensures.ok) (changed_section (the_view c.self.inside) _ (relocated c.args.relocation) _ _ _ _ c.self.view_is c.as_number.ensures refl at)
 
 pub invariant_of-self-2 : goal.invariant_of-self-2
-invariant_of-self-2 c = record {
-  sound = sound_relocated (the_view c.self.inside) _ _ _ _ _ _ c.self.invariant.sound c.self.view_is c.as_number.ensures c.requires c.index_mut.ensures.value c.in_ok-add_relocation.ensures.ok;
-  standards = kept_set _ c.self.inside.sections.items _ _ _ c.self.invariant.standards c.index_mut.ensures.value (ap (λ (x : SectionData). x.shared) c.in_ok-add_relocation.ensures.ok);
-}
+invariant_of-self-2 c =
+    let below = (section_here _ _ _ _ _ c.self.invariant.names _ _ _ (ap (λ (o : ObjectData). o.sections) c.self.view_is) c.as_number.ensures c.requires) in
+    let at = found_is _ _ _ _ _ c.self.invariant.names _ _ below c.index_mut.ensures.value in
+    record {
+      kept = rw (set_section _ _ _ _ _ c.self.invariant.names (relocated c.args.relocation) _ _ _ (λ segment name b. refl) below c.index_mut.ensures.value c.in_ok-add_relocation.ensures.ok) (record {
+        sound = sound_relocated (the_view c.self.inside) _ _ _ _ _ c.args.relocation c.self.invariant.kept.sound c.self.view_is c.as_number.ensures c.requires at refl;
+        standards = kept_set _ (the_view c.self.inside).sections _ _ _ c.self.invariant.kept.standards at refl;
+      });
+      names = names_set_section _ _ _ _ _ c.self.invariant.names _ _;
+    }
