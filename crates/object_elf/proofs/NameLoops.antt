@@ -1,5 +1,5 @@
 -- Loops over the names of an object.
-use Rattle.std.proofs.Common.{◌≡◌, ℕ, ◌+◌, List, ◌∷◌, ◌++◌, length, drop, map, ap, sym, ◌∙◌, Some, slice_get, true, refl}
+use Rattle.std.proofs.Common.{◌≡◌, ℕ, ◌+◌, List, ◌∷◌, ◌++◌, length, drop, map, ap, sym, ◌∙◌, Some, slice_get, true, false, refl}
 use Rattle.std.specs.Prelude.{filter, flat_map, sum_by}
 use Rattle.std.proofs.lemmas.List.Sums.{sum_by-cons}
 use Rattle.std.proofs.lemmas.Option.{get_or_from_slice_get}
@@ -16,6 +16,10 @@ get_drop xs k x e = item_drop xs k x (get_within xs k x e) (sym (get_or_from_sli
 pub name_more : (out new all text name : List ℕ) (left rest : List (List ℕ)) → left ≡ name ∷ rest → text ≡ name → new ≡ out ++ with_zero text → out ++ flat_map with_zero left ≡ all → new ++ flat_map with_zero rest ≡ all
 name_more out new all text name left rest e same n a = flat_more with_zero name left rest out new all e (n ∙ ap (λ l. out ++ with_zero l) same) a
 
+-- no name is written
+pub names_passed : (out all : List ℕ) (left rest : List (List ℕ)) → left ≡ rest → out ++ flat_map with_zero left ≡ all → out ++ flat_map with_zero rest ≡ all
+names_passed out all left rest e a = rw e at a
+
 -- ---- the sections of the object
 
 pub own_next : (xs : List SectionData) (k : ℕ) (s : SectionData) → slice_get xs k ≡ Some s → map own_name (drop k xs) ≡ own_name s ∷ map own_name (drop (k + 1) xs)
@@ -31,6 +35,12 @@ filter_first s xs t = rw t refl
 
 pub relocated_left : (xs : List SectionData) (k : ℕ) (s : SectionData) → slice_get xs k ≡ Some s → has_relocations s ≡ true → filter has_relocations (drop k xs) ≡ s ∷ filter has_relocations (drop (k + 1) xs)
 relocated_left xs k s e t = ap (filter has_relocations) (get_drop xs k s e) ∙ filter_first s (drop (k + 1) xs) t
+
+filter_past : (s : SectionData) (xs : List SectionData) → has_relocations s ≡ false → filter has_relocations (s ∷ xs) ≡ filter has_relocations xs
+filter_past s xs t = rw t refl
+
+pub relocated_past : (xs : List SectionData) (k : ℕ) (s : SectionData) → slice_get xs k ≡ Some s → has_relocations s ≡ false → filter has_relocations (drop k xs) ≡ filter has_relocations (drop (k + 1) xs)
+relocated_past xs k s e t = ap (filter has_relocations) (get_drop xs k s e) ∙ filter_past s (drop (k + 1) xs) t
 
 pub record_size_next : (xs : List SectionData) (k : ℕ) (s : SectionData) → slice_get xs k ≡ Some s → has_relocations s ≡ true
     → sum_by record_name_size (filter has_relocations (drop k xs)) ≡ length s.name + 6 + sum_by record_name_size (filter has_relocations (drop (k + 1) xs))

@@ -75,7 +75,7 @@ pub length-rows_of : (ss : List SymbolData) → length (rows_of ss) ≡ length s
 length-rows_of ss = length-map (enumerate_from 0 ss) (row_of ss) ∙ length-enumerate_from 0 ss
 
 row_is : (ss : List SymbolData) (k : ℕ) (s : SymbolData) → slice_get ss k ≡ Some s → slice_get (rows_of ss) k ≡ Some (row_in ss k)
-row_is ss k s e = get_map (row_of ss) (enumerate_from 0 ss) k (k, s) (let z : 0 + k ≡ k = omega arith in rw z at (get_numbered {X = Symbol} 0 ss k s e))
+row_is ss k s e = get_map (row_of ss) (enumerate_from 0 ss) k (k, s) (let z : 0 + k ≡ k = omega arith in rw z at (get_numbered {X = SymbolData} 0 ss k s e))
 
 pub rows_are_rows : (ss : List SymbolData) → AreRowsOf (rows_of ss) ss
 rows_are_rows ss k h = let s = get_exists ss k h in row_is ss k s.0 s.1

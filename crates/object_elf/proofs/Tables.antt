@@ -144,16 +144,16 @@ symbol_names_size_is o =
 
 -- ---- texts
 
-pub own_names_are : (ss : List Symbol) (xs : List SectionData) → map content_name (map (elf_section ss) xs) ≡ map rows.own_name xs
+pub own_names_are : (ss : List SymbolData) (xs : List SectionData) → map content_name (map (elf_section ss) xs) ≡ map rows.own_name xs
 own_names_are ss [] = refl
 own_names_are ss (x ∷ xs) = ap (λ names. x.name ∷ names) (own_names_are ss xs)
 
-record_names_past : (ss : List Symbol) (x : SectionData) (ts : List ElfTableSection) (fs : List SectionData) (b : Bool) → map relocation_name ts ≡ map rows.record_name fs
+record_names_past : (ss : List SymbolData) (x : SectionData) (ts : List ElfTableSection) (fs : List SectionData) (b : Bool) → map relocation_name ts ≡ map rows.record_name fs
     → map relocation_name (cond b (elf_section ss x ∷ ts) ts) ≡ map rows.record_name (cond b (x ∷ fs) fs)
 record_names_past ss x ts fs true e = ap (λ names. rows.record_name x ∷ names) e
 record_names_past ss x ts fs false e = e
 
-pub record_names_are : (ss : List Symbol) (xs : List SectionData) → map relocation_name (filter is_relocated (map (elf_section ss) xs)) ≡ map rows.record_name (filter has_relocations xs)
+pub record_names_are : (ss : List SymbolData) (xs : List SectionData) → map relocation_name (filter is_relocated (map (elf_section ss) xs)) ≡ map rows.record_name (filter has_relocations xs)
 record_names_are ss [] = refl
 record_names_are ss (x ∷ xs) =
     let ts = filter is_relocated (map (elf_section ss) xs) in
@@ -220,7 +220,7 @@ pub chosen_sizes : (ss : List SymbolData) → rows.names_size (chosen true ss) +
 chosen_sizes [] = refl
 chosen_sizes (s ∷ ss) = omega (arith, chosen_past s (filter is_local ss) (filter is_global ss) (is_local s), chosen_sizes ss, sum_by-cons symbol_name_size s ss)
 
-pub chosen_counts : (ss : List Symbol) → length (chosen true ss) + length (chosen false ss) ≡ length ss
+pub chosen_counts : (ss : List SymbolData) → length (chosen true ss) + length (chosen false ss) ≡ length ss
 chosen_counts ss =
     omega (
       arith,

@@ -34,21 +34,20 @@ pub(crate) fn place_body(out: &mut [u8], at: usize, object: &Object, rows: &[u32
     ensures len { length out.new ≡ length out.old }
     ensures numbers { NumbersFit object.now }
 {
-    let at = place_contents(out, at, object);
+    let at = place_contents(out, at, object.sections());
     let at = place_relocations(out, at, object, rows);
     let at = place_symbol_table(out, at, object);
     place_symbol_strings(out, at, object)
 }
 
 /// Writes the bytes of the sections, each at a multiple of its alignment.
-fn place_contents(out: &mut [u8], at: usize, object: &Object) -> usize
-    requires { end_of_aligned at (map contents_at (object.now).sections) ≤ length out.old }
-    ensures contents { LaysOut (take at out.old) (take result out.new) (map contents_at (object.now).sections) }
-    ensures end { result ≡ end_of_aligned at (map contents_at (object.now).sections) }
+fn place_contents(out: &mut [u8], at: usize, sections: &[Section]) -> usize
+    requires { end_of_aligned at (map contents_at (map plain sections.now)) ≤ length out.old }
+    ensures contents { LaysOut (take at out.old) (take result out.new) (map contents_at (map plain sections.now)) }
+    ensures end { result ≡ end_of_aligned at (map contents_at (map plain sections.now)) }
     ensures len { length out.new ≡ length out.old }
-    ensures aligns { (k : ℕ) (s : SectionData) → slice_get (object.now).sections k ≡ Some s → s.align < 2 ^ 64 }
+    ensures aligns { (k : ℕ) (s : SectionData) → slice_get (map plain sections.now) k ≡ Some s → s.align < 2 ^ 64 }
 {
-    let sections = object.sections();
     let mut end = at;
     for section in sections {
         end = place_padding(out, end, stored_align(section));

@@ -9,8 +9,7 @@ symbol_part-requires-clause-table c = omega (arith, c.requires.table, table_row_
 pub returns : goal.returns
 returns c =
     let o = c.args.object.now in
-    let symbols = c.symbols.ensures.value in
-    let table = rw symbols at c.symbol_part.ensures ∙ sym (symbol_part_is o c.args.table (sym c.requires.table)) in
+    let table = c.symbol_part.ensures ∙ sym (symbol_part_is o c.args.table (sym c.requires.table)) in
     let names = c.string_part.ensures ∙ ap (string_part (codes ".strtab")) (c.symbol_names_size.ensures.value ∙ sym (symbol_names_size_is o)) in
     let texts = c.string_part-2.ensures ∙ ap (string_part (codes ".shstrtab")) (c.section_names_size.ensures.value ∙ sym (section_names_size_is o)) in
     rw (table, names, texts) refl

@@ -13,7 +13,6 @@ file_length-requires c =
 pub returns : goal.returns
 returns c =
     let length = place_is c.file_length.result _ c.in_ok-length.length c.file_length.ensures c.in_ok-length.ensures.ok_part in
-    let symbols = c.symbols.ensures.value in
     let count = c.len.ensures ∙ c.push_all_places.new.places.ok.0 in
-    counted c.args.object.now _ _ _ _ _ (rw symbols at c.in_ok-rows.ensures.count) (rw symbols at c.in_ok-rows.ensures.rows) c.new-places.ensures.items c.in_ok-end.ensures
+    counted c.args.object.now _ _ _ _ _ c.in_ok-rows.ensures.count c.in_ok-rows.ensures.rows c.new-places.ensures.items c.in_ok-end.ensures
     (length ∙ ap (λ n. next_multiple_of c.in_ok-end.end 8 + 64 * (n + 1)) count)

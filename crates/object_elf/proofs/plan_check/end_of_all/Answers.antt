@@ -1,6 +1,7 @@
 use Rattle.std.proofs.Common.{◌≡◌, ◌+◌, ◌-◌, ◌∷◌, [], ◌++◌, arith, ap, sym, refl, ◌∙◌, append_assoc, length, map, length-append}
 use Rattle.std.proofs.lemmas.List.{length-map}
 use Rattle.object_core.specs.ElfRows.{elf_table_of}
+use Rattle.object_core.specs.Object.{body_of}
 use Rattle.object_elf.specs.Layout.{note_part, table_parts}
 use Rattle.object_elf.specs.PartView.{content_part_of, relocation_parts_from}
 use Rattle.object_elf.proofs.Tables.{parts_are, table_row_is}
@@ -22,7 +23,7 @@ returns-in_err-end-2 c =
     let parts = parts_are o c.args.table (sym c.requires.table) in
     let cs = map content_part_of o.sections in
     let rs = relocation_parts_from c.args.table 1 o.sections in
-    let count : length c.sections-count.result.now ≡ 0 + length cs = omega (arith, ap length c.sections-count.ensures.value, length-map o.sections content_part_of) in
+    let count : length c.sections-count.result.now ≡ 0 + length cs = omega (arith, ap length c.sections-count.ensures.value, length-map o.sections body_of, length-map o.sections content_part_of) in
     rw c.from_residual-in_err-end-2.ensures
     (stops c.args.places.now 0 _ 64 _ cs (note_part ∷ []) (rs ++ table_parts (elf_table_of o)) _ c.in_ok-end.ensures count (parts ∙ append_assoc cs (note_part ∷ rs) (table_parts (elf_table_of o))) (over_as _ _ _ _ _ c.stack_note.ensures c.in_err-end-2.ensures))
 
@@ -32,7 +33,7 @@ returns-in_err-end-3 c =
     let parts = parts_are o c.args.table (sym c.requires.table) in
     let cs = map content_part_of o.sections in
     let rs = relocation_parts_from c.args.table 1 o.sections in
-    let count : length c.sections-count.result.now ≡ 0 + length cs = omega (arith, ap length c.sections-count.ensures.value, length-map o.sections content_part_of) in
+    let count : length c.sections-count.result.now ≡ 0 + length cs = omega (arith, ap length c.sections-count.ensures.value, length-map o.sections body_of, length-map o.sections content_part_of) in
     let front = stand_more _ _ _ _ _ _ cs (note_part ∷ []) (cs ++ note_part ∷ []) c.in_ok-end.ensures (rw c.stack_note.ensures at c.in_ok-end-2.ensures) count refl in
     let number : length o.sections + 1 ≡ 0 + length (cs ++ note_part ∷ []) = omega (arith, length-append cs (note_part ∷ []), length-map o.sections content_part_of) in
     rw c.from_residual-in_err-end-3.ensures
@@ -44,7 +45,7 @@ returns c =
     let parts = parts_are o c.args.table (sym c.requires.table) in
     let cs = map content_part_of o.sections in
     let rs = relocation_parts_from c.args.table 1 o.sections in
-    let count : length c.sections-count.result.now ≡ 0 + length cs = omega (arith, ap length c.sections-count.ensures.value, length-map o.sections content_part_of) in
+    let count : length c.sections-count.result.now ≡ 0 + length cs = omega (arith, ap length c.sections-count.ensures.value, length-map o.sections body_of, length-map o.sections content_part_of) in
     let front = stand_more _ _ _ _ _ _ cs (note_part ∷ []) (cs ++ note_part ∷ []) c.in_ok-end.ensures (rw c.stack_note.ensures at c.in_ok-end-2.ensures) count refl in
     let number : length o.sections + 1 ≡ 0 + length (cs ++ note_part ∷ []) = omega (arith, length-append cs (note_part ∷ []), length-map o.sections content_part_of) in
     let behind = stand_more _ _ _ _ _ _ (cs ++ note_part ∷ []) rs (cs ++ note_part ∷ rs) front c.in_ok-end-3.ensures number (sym (append_assoc cs (note_part ∷ []) rs)) in

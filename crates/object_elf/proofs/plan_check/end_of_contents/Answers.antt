@@ -1,31 +1,35 @@
-use Rattle.std.proofs.Common.{◌≡◌, ◌+◌, arith, length, map, take}
-use Rattle.byte_core.proofs.Lists.{item_get}
+use Rattle.std.proofs.Common.{◌∙◌, ◌≡◌, ◌+◌, arith, length, map, take}
+use Rattle.object_core.specs.Object.{body_of}
 use Rattle.object_elf.specs.PartView.{content_part_of}
+use Rattle.object_elf.proofs.Items.{item_of, size_within, content_same}
 use Rattle.object_elf.proofs.PartLoops.{length-map_take, map_next, map_split, stand_none, stand_more, over_as, stops}
 use Rattle.object_elf.proofs.plan_check.end_of_contents.Goals as goal
 
 pub loop-k-init : goal.loop-k-init
 loop-k-init c = stand_none _ _ _
 
-pub content_part-part-requires-clause-name : goal.content_part-part-requires-clause-name
-content_part-part-requires-clause-name c =
-    let value = c.sections-sections.ensures.value in
-    c.section_name.ensures c.index-sections-k.result (item_get c.args.object.now.sections c.loop-k.k c.index-sections-k.result (rw value at c.loop-k-test.true) (rw value at c.index-sections-k.is))
+pub content_part-part-requires : goal.content_part-part-requires
+content_part-part-requires c =
+    let o = c.args.object.now in
+    let item = item_of body_of o.sections _ c.loop-k.k c.index-sections-k.result c.sections-sections.ensures.value c.loop-k-test.true c.index-sections-k.is in
+    size_within o c.loop-k.k item.whole _ c.sections-sections.ensures.sound c.requires item.found item.same
 
 pub returns-in_err-next : goal.returns-in_err-next
 returns-in_err-next c =
     let o = c.args.object.now in
-    let value = c.sections-sections.ensures.value in
-    let h = rw value at c.loop-k-test.true in
-    let e = item_get o.sections c.loop-k.k c.index-sections-k.result h (rw value at c.index-sections-k.is) in
-    let count : c.loop-k.k ≡ 0 + length (map content_part_of (take c.loop-k.k o.sections)) = omega (arith, length-map_take content_part_of o.sections c.loop-k.k (omega (arith, h))) in
-    rw c.from_residual.ensures (stops _ _ _ _ _ _ _ _ _ c.loop-k.invariant count (map_split content_part_of o.sections c.loop-k.k c.index-sections-k.result e) (over_as _ _ _ _ _ c.content_part-part.ensures c.in_err-next.ensures))
+    let item = item_of body_of o.sections _ c.loop-k.k c.index-sections-k.result c.sections-sections.ensures.value c.loop-k-test.true c.index-sections-k.is in
+    let s = item.whole in
+    let e = item.found in
+    let part = c.content_part-part.ensures ∙ content_same s _ _ item.same (c.section_name.ensures s e) in
+    let count : c.loop-k.k ≡ 0 + length (map content_part_of (take c.loop-k.k o.sections)) = omega (arith, length-map_take content_part_of o.sections c.loop-k.k (omega (arith, item.within))) in
+    rw c.from_residual.ensures (stops _ _ _ _ _ _ _ _ _ c.loop-k.invariant count (map_split content_part_of o.sections c.loop-k.k s e) (over_as _ _ _ _ _ part c.in_err-next.ensures))
 
 pub loop-k-preserved : goal.loop-k-preserved
 loop-k-preserved c =
     let o = c.args.object.now in
-    let value = c.sections-sections.ensures.value in
-    let h = rw value at c.loop-k-test.true in
-    let e = item_get o.sections c.loop-k.k c.index-sections-k.result h (rw value at c.index-sections-k.is) in
-    let count : c.loop-k.k ≡ 0 + length (map content_part_of (take c.loop-k.k o.sections)) = omega (arith, length-map_take content_part_of o.sections c.loop-k.k (omega (arith, h))) in
-    stand_more _ _ _ _ _ _ _ _ _ c.loop-k.invariant (rw c.content_part-part.ensures at c.in_ok-next.ensures) count (map_next content_part_of o.sections c.loop-k.k c.index-sections-k.result e)
+    let item = item_of body_of o.sections _ c.loop-k.k c.index-sections-k.result c.sections-sections.ensures.value c.loop-k-test.true c.index-sections-k.is in
+    let s = item.whole in
+    let e = item.found in
+    let part = c.content_part-part.ensures ∙ content_same s _ _ item.same (c.section_name.ensures s e) in
+    let count : c.loop-k.k ≡ 0 + length (map content_part_of (take c.loop-k.k o.sections)) = omega (arith, length-map_take content_part_of o.sections c.loop-k.k (omega (arith, item.within))) in
+    stand_more _ _ _ _ _ _ _ _ _ c.loop-k.invariant (rw part at c.in_ok-next.ensures) count (map_next content_part_of o.sections c.loop-k.k s e)

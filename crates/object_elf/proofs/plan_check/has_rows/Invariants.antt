@@ -7,7 +7,7 @@ use Rattle.object_elf.proofs.plan_check.has_rows.Given as goal
 -- the next rows of both kinds, and the rows so far
 abbrev pub invariant-loop-k : goal.invariant-loop-k
 invariant-loop-k l = record {
-  local : l.local ≡ 1 + count_by is_local (take l.k l.symbols);
-  other : l.other ≡ 1 + count_by is_local l.symbols + count_by is_global (take l.k l.symbols);
-  rows : (k : ℕ) → k < l.k → slice_get l.rows k ≡ Some (row_in l.symbols k);
+  local : l.local ≡ 1 + count_by is_local (take l.k l.object.symbols);
+  other : l.other ≡ 1 + count_by is_local l.object.symbols + count_by is_global (take l.k l.object.symbols);
+  rows : (k : ℕ) → k < l.k → slice_get l.rows k ≡ Some (row_in l.object.symbols k);
 }

@@ -10,10 +10,10 @@ use Rattle.object_elf.proofs.plan_check.length_at.Goals as goal
 pub returns-then-places-table : goal.returns-then-places-table
 returns-then-places-table c = λ e.
     let o = c.args.object.now in
-    absurd (omega (arith, c.if-places-table.true, rw c.sections.ensures.value at c.row_of_symbol_table-table.ensures, ap length e, length-places_of (parts_of (elf_table_of o)), part_count_is o))
+    absurd (omega (arith, c.if-places-table.true, c.row_of_symbol_table-table.ensures, ap length e, length-places_of (parts_of (elf_table_of o)), part_count_is o))
 
 pub end_of_all-requires-clause-table : goal.end_of_all-requires-clause-table
-end_of_all-requires-clause-table c = rw c.sections.ensures.value at c.row_of_symbol_table-table.ensures ∙ sym (table_row_is c.args.object.now)
+end_of_all-requires-clause-table c = c.row_of_symbol_table-table.ensures ∙ sym (table_row_is c.args.object.now)
 
 pub returns-in_err-end : goal.returns-in_err-end
 returns-in_err-end c =
@@ -23,5 +23,5 @@ returns-in_err-end c =
 pub returns : goal.returns
 returns c =
     let o = c.args.object.now in
-    let count : length c.args.places.now ≡ length (parts_of (elf_table_of o)) = omega (arith, c.if-places-table.false, rw c.sections.ensures.value at c.row_of_symbol_table-table.ensures, part_count_is o) in
+    let count : length c.args.places.now ≡ length (parts_of (elf_table_of o)) = omega (arith, c.if-places-table.false, c.row_of_symbol_table-table.ensures, part_count_is o) in
     length_found _ c.args.places.now c.in_ok-end.end _ (elf_table_of o) c.in_ok-end.ensures refl count c.file_length.ensures

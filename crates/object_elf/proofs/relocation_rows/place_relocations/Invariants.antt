@@ -8,8 +8,8 @@ use Rattle.object_elf.proofs.relocation_rows.place_relocations.Given as goal
 -- the records of the sections so far are laid out
 abbrev pub invariant-loop-section : goal.invariant-loop-section
 invariant-loop-section l = record {
-  records : LaysOut (take l.at l.fn.out) (take l.end l.out) (relocated l.rows (take l.section-index l.sections));
-  end : l.end ≡ end_of_aligned l.at (relocated l.rows (take l.section-index l.sections));
+  records : LaysOut (take l.at l.fn.out) (take l.end l.out) (relocated l.rows (take l.section-index l.object.sections));
+  end : l.end ≡ end_of_aligned l.at (relocated l.rows (take l.section-index l.object.sections));
   len : length l.out ≡ length l.fn.out;
-  fit : (k : ℕ) (s : SectionData) → k < l.section-index → slice_get l.sections k ≡ Some s → FitRecords s.relocations;
+  fit : (k : ℕ) (s : SectionData) → k < l.section-index → slice_get l.object.sections k ≡ Some s → FitRecords s.relocations;
 }

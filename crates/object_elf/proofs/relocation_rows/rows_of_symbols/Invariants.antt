@@ -7,8 +7,8 @@ use Rattle.object_elf.proofs.relocation_rows.rows_of_symbols.Given as goal
 -- the next rows of both kinds, and the rows so far
 abbrev pub invariant-loop-symbol : goal.invariant-loop-symbol
 invariant-loop-symbol l = record {
-  local : l.local ≡ 1 + count_by is_local (take l.symbol-index l.symbols);
-  other : l.other ≡ 1 + count_by is_local l.symbols + count_by is_global (take l.symbol-index l.symbols);
+  local : l.local ≡ 1 + count_by is_local (take l.symbol-index l.object.symbols);
+  other : l.other ≡ 1 + count_by is_local l.object.symbols + count_by is_global (take l.symbol-index l.object.symbols);
   count : length l.rows.items ≡ l.symbol-index;
-  rows : (k : ℕ) → k < l.symbol-index → slice_get l.rows.items k ≡ Some (row_in l.symbols k);
+  rows : (k : ℕ) → k < l.symbol-index → slice_get l.rows.items k ≡ Some (row_in l.object.symbols k);
 }

@@ -2,7 +2,6 @@ use Rattle.std.proofs.Common.{◌≡◌, ap, sym, arith, not, ◌∙◌, false, 
 use Rattle.std.specs.Prelude.{is_ok}
 use Rattle.std.proofs.lemmas.Bool.{eqb-true, eq-eqb}
 use Rattle.object_elf.specs.PlainCounts.{plain_counts}
-use Rattle.object_elf.specs.Plan.{rows_of}
 use Rattle.object_elf.proofs.Judging.{within_limits, ok_cause}
 use Rattle.object_elf.proofs.Tables.{counts_are}
 use Rattle.object_elf.proofs.SymbolLoops.{not_chosen}
@@ -21,7 +20,7 @@ returns-then-is_err c = (
 pub returns-then-not-has_rows : goal.returns-then-not-has_rows
 returns-then-not-has_rows c = (
   λ h. absurd (cc),
-  λ p. absurd (c.has_rows.ensures.no c.if-not-has_rows.true (c.rows.ensures ∙ plan_rows c.args.self.now c.args.object.now p.numbers ∙ ap rows_of (sym c.symbols.ensures.value))),
+  λ p. absurd (c.has_rows.ensures.no c.if-not-has_rows.true (c.rows.ensures ∙ plan_rows c.args.self.now c.args.object.now p.numbers)),
 )
 
 pub returns-in-Some : goal.returns-in-Some
@@ -30,7 +29,7 @@ returns-in-Some c =
     let passes : is_ok c.check_limits.result ≡ true = c.is_err.ensures.negation ∙ ap not c.if-is_err.false in
     let limits = within_limits (plain_counts o) (ok_cause c.check_limits.result (plain_counts o) passes c.check_limits.ensures.judged) in (
       λ h.
-          let rows = sym c.rows.ensures ∙ c.has_rows.ensures.yes c.if-not-has_rows.false ∙ ap rows_of c.symbols.ensures.value in
+          let rows = sym c.rows.ensures ∙ c.has_rows.ensures.yes c.if-not-has_rows.false in
           let places = sym c.places.ensures ∙ c.in-Some.ensures.starts in
           let size = sym c.len-length.ensures ∙ sym (eqb-true c.in-Some.found c.len-length.result h) ∙ c.in-Some.ensures.end in
           record { limits = rw (counts_are o) limits; numbers = plan_is c.args.self.now o rows places size },
