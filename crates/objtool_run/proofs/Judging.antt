@@ -5,7 +5,9 @@ use Rattle.image_build.specs.Built.{BuildPart, BuildRefusal, build_cause}
 use Rattle.image_build.specs.Parts.{built_so_far}
 use Rattle.objtool_run.specs.Fault.{code_of}
 use Rattle.objtool_run.specs.Script.{HasJson, HasNoParts, HasOtherParts, StandsFor}
-use Rattle.objtool_run.specs.Reading.{IsImage, HasNoImage, IsImageLine, IsUnreadImage, JudgesRead}
+use Rattle.image_read.specs.Image.{HasNoImage}
+use Rattle.image_read.specs.declared.image.Image.TheVariants.{Elf}
+use Rattle.objtool_run.specs.Reading.{IsImage, IsImageLine, IsUnreadImage, JudgesRead}
 use Rattle.objtool_run.specs.Run.{IsOutput, IsLong, Explains, Judges, JudgesBuild, IsAnswerable, IsJudged}
 use Rattle.objtool_run.specs.declared.words.Request.{Request}
 use Rattle.objtool_run.specs.declared.words.Request.TheVariants.{Build, Raw, Read, Names, Ask}
@@ -101,10 +103,10 @@ judges_unread_query q input none = record {
 -- -- images
 
 judges_image : (input : List ℕ) (status : ℕ) → IsImage input → (status ≡ 0) ⊎ (status ≡ 4) → JudgesRead input status
-judges_image input status image ends = record { unread = λ none. absurd (none image); read = λ also. ends }
+judges_image input status image ends = record { unread = λ none. absurd (none.none (Elf image.image) image.reads); read = λ also. ends }
 
 judges_no_image : (input : List ℕ) → HasNoImage input → JudgesRead input 1
-judges_no_image input none = record { unread = λ h. refl; read = λ image. absurd (none image) }
+judges_no_image input none = record { unread = λ h. refl; read = λ image. absurd (none.none (Elf image.image) image.reads) }
 
 if_known : (P Q : List ℕ → Type 0) → ((input : List ℕ) → P input → Q input) → (o : Option (List ℕ)) → IfSome o P → IfSome o Q
 if_known P Q f None h = tt
@@ -139,7 +141,7 @@ judges_fault (Names machine number) input OutOfMemory j h = absurd j
 judges_fault (Names machine number) input NotUnderstood j h = absurd h
 judges_fault (Names machine number) input TooLong j h = absurd j
 judges_fault (Names machine number) input NotYet j h = absurd h
-judges_fault Build input (Refused text) j h = if_known _ (λ known. JudgesBuild known 1) (λ known a. judges_refused known a.parts a.refusal a.stands a.so_far a.refused) input h
+judges_fault Build input (Refused text) j h = if_known _ (λ known. JudgesBuild known 1) (λ known a. judges_refused known a.parts a.refusal.refusal a.stands a.so_far a.refusal.refused) input h
 judges_fault Build input BadWords j h = absurd j
 judges_fault Build input ReadFailed j h = absurd j
 judges_fault Build input WriteFailed j h = absurd j
@@ -147,7 +149,7 @@ judges_fault Build input OutOfMemory j h = absurd j
 judges_fault Build input NotUnderstood j h = if_known HasNoParts (λ known. JudgesBuild known 6) judges_unread input h
 judges_fault Build input TooLong j h = absurd j
 judges_fault Build input NotYet j h = if_known HasOtherParts (λ known. JudgesBuild known 8) judges_other input h
-judges_fault Raw input (Refused text) j h = if_known _ (λ known. JudgesBuild known 1) (λ known a. judges_refused known a.parts a.refusal a.stands a.so_far a.refused) input h
+judges_fault Raw input (Refused text) j h = if_known _ (λ known. JudgesBuild known 1) (λ known a. judges_refused known a.parts a.refusal.refusal a.stands a.so_far a.refusal.refused) input h
 judges_fault Raw input BadWords j h = absurd j
 judges_fault Raw input ReadFailed j h = absurd j
 judges_fault Raw input WriteFailed j h = absurd j

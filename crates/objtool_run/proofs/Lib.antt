@@ -5,3 +5,4 @@ pub mod Judging
 pub mod Endings
 pub mod Appending
 pub mod Libcalls
+pub mod PartLists

@@ -61,20 +61,6 @@ number_none word limit h small none =
     let test : nat_le (digits_value 10 word) limit ≡ false = above (digits_value 10 word) limit small not_small in
     too_great word limit false h test refl
 
--- words of other lengths name no request
-pub two_words : {A : Type 0} (f : A → List ℕ) (xs : List A) → 2 ≤ length xs → length xs < 3 → request_of (map f xs) ≡ None
-two_words f [] low high = absurd (omega (arith, low))
-two_words f (x ∷ []) low high = absurd (omega (arith, low))
-two_words f (x ∷ y ∷ []) low high = refl
-two_words f (x ∷ y ∷ z ∷ xs) low high = absurd (omega (arith, high))
-
-pub many_words : {A : Type 0} (f : A → List ℕ) (xs : List A) → 4 ≤ length xs → request_of (map f xs) ≡ None
-many_words f [] low = absurd (omega (arith, low))
-many_words f (x ∷ []) low = absurd (omega (arith, low))
-many_words f (x ∷ y ∷ []) low = absurd (omega (arith, low))
-many_words f (x ∷ y ∷ z ∷ []) low = absurd (omega (arith, low))
-many_words f (x ∷ y ∷ z ∷ w ∷ xs) low = refl
-
 pub not_false : (b : Bool) → not b ≡ false → b ≡ true
 not_false true h = refl
 not_false false h = absurd (cc)

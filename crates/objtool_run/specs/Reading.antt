@@ -1,6 +1,7 @@
 -- What a file's bytes are read as.
 use Rattle.std.specs.Prelude.{◌≡◌, ℕ, ◌⊎◌, List, codes, string_bytes}
 use Rattle.image_read.specs.ElfImage.{ElfImageData, ElfReads}
+use Rattle.image_read.specs.Image.{HasNoImage}
 use Rattle.image_json.specs.ElfJson.{elf_text}
 use Rattle.objtool_run.specs.Fault.{line}
 use Rattle.objtool_run.specs.declared.fault.Fault.{Fault}
@@ -10,10 +11,6 @@ use Rattle.objtool_run.specs.declared.fault.Fault.TheVariants.{Refused, BadWords
 pub record IsImage (input : List ℕ) : Type 0 where
   pub image : ElfImageData
   pub reads : ElfReads input image
-
--- they are read as none
-abbrev pub HasNoImage : List ℕ → Type 0
-HasNoImage input = IsImage input → ⊥
 
 -- the text is the line of the image that the bytes are read as
 pub record IsImageLine (input text : List ℕ) : Type 0 where

@@ -46,17 +46,32 @@ pub record IsFile (input bytes : List ℕ) : Type 0 where
   pub are_bytes : All (λ x. x < 256) bytes
   pub built : Built parts bytes
 
--- the text names the part, the place and the first cause that refuse the input's parts
-pub record IsRefusal (input text : List ℕ) : Type 0 where
-  pub parts : List BuildPart
-  pub stands : StandsFor input parts
-  pub so_far : built_so_far parts ≡ true
+-- the text names the part, the place and the first cause that refuse the parts
+pub record IsRefusalOf (parts : List BuildPart) (text : List ℕ) : Type 0 where
   pub refusal : BuildRefusal
   pub refused : build_cause parts ≡ Some refusal
   pub error : BuildError
   pub no_memory : error.cause ≢ causes.OutOfMemory
   pub tells : TellsBuild error (build_cause parts)
   pub text_is : text ≡ line (build_text error)
+
+-- what a fault says of parts that were built
+abbrev pub ExplainsParts : List BuildPart → Fault → Type 0
+ExplainsParts parts (Refused text) = IsRefusalOf parts (string_bytes text)
+ExplainsParts parts BadWords = ⊥
+ExplainsParts parts ReadFailed = ⊥
+ExplainsParts parts WriteFailed = ⊥
+ExplainsParts parts OutOfMemory = Unit {0}
+ExplainsParts parts NotUnderstood = ⊥
+ExplainsParts parts TooLong = ⊥
+ExplainsParts parts NotYet = ⊥
+
+-- the text is that of the refusal of the input's parts
+pub record IsRefusal (input text : List ℕ) : Type 0 where
+  pub parts : List BuildPart
+  pub stands : StandsFor input parts
+  pub so_far : built_so_far parts ≡ true
+  pub refusal : IsRefusalOf parts text
 
 -- what a fault says of the input of a build; those of the words, the streams and memory say nothing of it
 abbrev pub ExplainsBuild : List ℕ → Fault → Type 0

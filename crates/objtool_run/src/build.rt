@@ -1,14 +1,16 @@
 //! The command `build`: from the bytes of an input to the file of its parts, and to its line.
 
-ghost use Rattle.std.specs.Prelude.{◌≡◌, ◌<◌, string_bytes, IfOk, IfErr};
+ghost use Rattle.std.specs.Prelude.{◌≡◌, ◌<◌, true, map, None, string_bytes, IfOk, IfErr, OnOk};
 ghost use Rattle.std.specs.List.{All};
+ghost use Rattle.image_build.specs.Built.{Built, build_cause};
+ghost use Rattle.image_build.specs.Parts.{part_view, built_so_far, HasFewCalls};
 ghost use Rattle.image_build.specs.Texts.{build_text};
 ghost use Rattle.objtool_run.specs.Fault.{line};
-ghost use Rattle.objtool_run.specs.Run.{IsAnswer, IsFile, ExplainsBuild, IsOfInput, TellsRefusal, line_of};
+ghost use Rattle.objtool_run.specs.Run.{IsAnswer, IsFile, ExplainsBuild, ExplainsParts, IsOfInput, TellsRefusal, line_of};
 
 use crate::fault::Fault;
 use crate::script::part::read_parts;
-use image_build::{BuildCause, BuildError, build_image, built_so_far};
+use image_build::{BuildCause, BuildError, Part, build_image, built_so_far};
 use std::alloc::{AllocError, Global};
 
 /// The output for some bytes: their lower-case hexadecimal and a newline.
@@ -40,6 +42,23 @@ fn refused(alloc: Global, error: &BuildError) -> Fault
     }
 }
 
+/// The file of parts that are built so far.
+fn file_of(alloc: Global, parts: &[Part]) -> Result<Vec<u8>, Fault>
+    requires built { built_so_far (map part_view parts.now) ≡ true }
+    requires few { All HasFewCalls (map part_view parts.now) }
+    ensures built { IfOk result (λ bytes. Built (map part_view parts.now) bytes.items) }
+    ensures valid { OnOk result (build_cause (map part_view parts.now) ≡ None) }
+    ensures are_bytes { IfOk result (λ bytes. All (λ x. x < 256) bytes.items) }
+    ensures explained { IfErr result (λ fault. ExplainsParts (map part_view parts.now) fault) }
+{
+    let bytes = match build_image(alloc, parts) {
+        Ok(bytes) => bytes,
+        Err(error) => return Err(refused(alloc, &error)),
+    };
+    are_bytes(&bytes);
+    Ok(bytes)
+}
+
 /// The file that an input's parts build.
 pub fn built_file(alloc: Global, input: &[u8]) -> Result<Vec<u8>, Fault>
     ensures ok { IfOk result (λ bytes. IsFile input.now bytes.items) }
@@ -53,12 +72,9 @@ pub fn built_file(alloc: Global, input: &[u8]) -> Result<Vec<u8>, Fault>
     if !built_so_far(&parts) {
         return Err(Fault::NotYet);
     }
-    match build_image(alloc, &parts) {
-        Ok(bytes) => {
-            are_bytes(&bytes);
-            Ok(bytes)
-        }
-        Err(error) => Err(refused(alloc, &error)),
+    match file_of(alloc, &parts) {
+        Ok(bytes) => Ok(bytes),
+        Err(fault) => Err(fault),
     }
 }
 
