@@ -36,12 +36,7 @@ pub(crate) fn rows_of_symbols(alloc: Global, object: &Object) -> Result<Vec<u32>
 }
 
 /// Writes the records of each section that has some, at multiples of 8. The rows are those of the symbols.
-pub(crate) fn place_relocations(
-    out: &mut [u8],
-    at: usize,
-    object: &Object,
-    rows: &[u32],
-) -> usize
+pub(crate) fn place_relocations(out: &mut [u8], at: usize, object: &Object, rows: &[u32]) -> usize
     requires names { (k : ℕ) (s : SectionData) → slice_get (object.now).sections k ≡ Some s → NameSymbols (length rows.now) s.relocations }
     requires room { end_of_aligned at (map (records_at rows.now) (filter has_relocations (object.now).sections)) ≤ length out.old }
     ensures records { LaysOut (take at out.old) (take result out.new) (map (records_at rows.now) (filter has_relocations (object.now).sections)) }

@@ -37,7 +37,11 @@ pub(crate) fn is_chosen(symbol: &Symbol, local: bool) -> bool
 pub(crate) fn local_count(object: &Object) -> usize
     ensures { result ≡ count_by is_local (object.now).symbols }
 {
-    object.symbols().iter().filter(|symbol| is_local(symbol)).count()
+    object
+        .symbols()
+        .iter()
+        .filter(|symbol| is_local(symbol))
+        .count()
 }
 
 /// Writes the rows of the local symbols, or of the others. Their names stand one after the other.
