@@ -11,13 +11,12 @@ use Rattle.byte_core.specs.LaidOut.{Aligned, LaysOut, end_of_aligned, laid_out}
 use Rattle.byte_core.proofs.LaidOut.{lays_as, lays_bytes, lays_more, length-laid_out, end_of_aligned-append}
 use Rattle.byte_core.proofs.Writing.{filled_whole}
 use Rattle.byte_core.proofs.Standing.{length-rows}
-use Rattle.object_core.specs.Object.{SymbolData}
+use Rattle.object_core.specs.Object.{SymbolData, SectionData, ObjectData, is_local, is_global}
 use Rattle.object_core.specs.LinkTable.{ElfTable, ElfTableSection, ElfTableSymbol}
 use Rattle.object_core.specs.declared.relocation.Relocation.{Relocation}
 use Rattle.ir_core.specs.declared.target.BinaryFormat.TheVariants.{Elf}
 use Rattle.object_core.specs.Appending.{AreSections}
 use Rattle.object_core.specs.WellFormed.{IsFormedElf}
-use Rattle.object_core.specs.Object.{SectionData, ObjectData, is_local, is_global}
 use Rattle.object_core.specs.ElfRows.{elf_machine, elf_symbol, elf_section, elf_relocation, elf_table_of, row_in}
 use Rattle.object_elf.specs.Layout.{strings_size, with_zero, string_bytes_of, is_relocated, section_names, symbol_names, parts_of, end_of_parts, headers_start}
 use Rattle.object_elf.specs.ElfHolds.{null_symbol, header_with, header_for, record_for}

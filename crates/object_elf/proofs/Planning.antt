@@ -8,8 +8,7 @@ use Rattle.std.proofs.lemmas.List.Sums.{fold-append}
 use Rattle.std.proofs.lemmas.List.FromFn.{length-enumerate_from}
 use Rattle.std.proofs.lemmas.Option.{get_or_from_slice_get, slice_get-get_or}
 use Rattle.byte_core.proofs.Lists.{get_map, get_within, get_exists, below_or_here}
-use Rattle.object_core.specs.Object.{SymbolData}
-use Rattle.object_core.specs.Object.{ObjectData}
+use Rattle.object_core.specs.Object.{SymbolData, ObjectData}
 use Rattle.object_core.specs.ElfRows.{elf_table_of, row_in}
 use Rattle.object_elf.specs.Layout.{Part, parts_of, start_after, end_after, end_of_parts, file_length}
 use Rattle.object_elf.specs.Writing.{AreRowsOf}

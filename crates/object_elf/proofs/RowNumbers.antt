@@ -4,8 +4,7 @@ use Rattle.std.specs.Prelude.{count_by}
 use Rattle.std.proofs.lemmas.List.Sums.{sum_by-take-le, length-filter}
 use Rattle.std.proofs.lemmas.List.Filters.{length-filter_both}
 use Rattle.byte_core.proofs.Lists.{item_get, get_left, get_right, below_or_here, count_yes}
-use Rattle.object_core.specs.Object.{SymbolData}
-use Rattle.object_core.specs.Object.{is_local, is_global}
+use Rattle.object_core.specs.Object.{SymbolData, is_local, is_global}
 use Rattle.object_core.specs.ElfRows.{row_in}
 
 next_row : (rows : List ℕ) (ss : List SymbolData) (i row k : ℕ) → length rows ≡ i → ((j : ℕ) → j < i → slice_get rows j ≡ Some (row_in ss j)) → row ≡ row_in ss i → (k < i) ⊎ (i ≡ k) → slice_get (rows ++ row ∷ []) k ≡ Some (row_in ss k)

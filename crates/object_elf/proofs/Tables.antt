@@ -4,8 +4,7 @@ use Rattle.std.specs.Prelude.{filter, count_by, sum_by}
 use Rattle.std.specs.List.{enumerate_from}
 use Rattle.std.proofs.lemmas.List.{length-map, map-append}
 use Rattle.std.proofs.lemmas.List.Sums.{sum_by-cons, sum_by-append, length-filter}
-use Rattle.object_core.specs.Object.{SymbolData}
-use Rattle.object_core.specs.Object.{SectionData, ObjectData, is_local, is_global}
+use Rattle.object_core.specs.Object.{SymbolData, SectionData, ObjectData, is_local, is_global}
 use Rattle.object_core.specs.ElfRows.{elf_symbol, elf_section, elf_relocation, elf_table_of}
 use Rattle.object_core.specs.LinkTable.{ElfTable, ElfTableSection, ElfTableSymbol}
 use Rattle.object_elf.specs.Layout.{is_relocated, symbol_table_row, strings_size, section_names, symbol_names, content_part, note_part, relocation_part, relocation_name, symbol_part, symbol_part_with, string_part, parts_of}

@@ -56,6 +56,14 @@ pub record StandBehind (places : List ℕ) (number from to : ℕ) (parts : List 
   pub starts : HasStarts places number from parts
   pub end : to ≡ fold end_after from parts
 
+-- the part starts at the place of this number, behind one that ends here
+abbrev pub StartsAt : List ℕ → ℕ → ℕ → Part → Type 0
+StartsAt places number end p = slice_get places number ≡ Some (start_after end p)
+
+-- an answer that tells where one part ends; none where it doesn't start there, or ends past the numbers of 64 bits
+abbrev pub PartEndsAt : Option ℕ → List ℕ → ℕ → ℕ → Part → Type 0
+PartEndsAt answer places number end p = MatchOption answer (StartsAt places number end p → 2 ^ 64 ≤ end_after end p) (λ next. StartsAt places number end p × (next ≡ end_after end p))
+
 -- an answer that tells where they end; none where they don't start there, or end past the numbers of 64 bits
 abbrev pub EndsAt : Option ℕ → List ℕ → ℕ → ℕ → List Part → Type 0
 EndsAt answer places number end parts = MatchOption answer (HasStarts places number end parts → 2 ^ 64 ≤ fold end_after end parts) (λ to. StandBehind places number end to parts)

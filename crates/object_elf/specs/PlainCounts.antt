@@ -1,7 +1,6 @@
 -- The numbers that are compared with the limits, by the sections and symbols of an object.
 use Rattle.std.specs.Prelude.{ℕ, ◌+◌, length, count_by, sum_by, if◌then◌else◌}
-use Rattle.object_core.specs.Object.{SymbolData}
-use Rattle.object_core.specs.Object.{SectionData, ObjectData}
+use Rattle.object_core.specs.Object.{SymbolData, SectionData, ObjectData}
 use Rattle.object_elf.specs.Counts.{Counts}
 use Rattle.object_elf.specs.Writing.{has_relocations}
 

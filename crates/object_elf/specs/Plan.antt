@@ -1,9 +1,8 @@
 -- The numbers of an ELF file that are counted before it is written.
-use Rattle.std.specs.Prelude.{◌≡◌, ℕ, List, map}
+use Rattle.std.specs.Prelude.{◌≡◌, ℕ, ◌≤◌, ◌^◌, List, map, Option, MatchOption}
 use Rattle.std.specs.List.{enumerate_from}
-use Rattle.object_core.specs.Object.{SymbolData}
+use Rattle.object_core.specs.Object.{SymbolData, ObjectData}
 use Rattle.object_core.specs.LinkTable.{ElfTable}
-use Rattle.object_core.specs.Object.{ObjectData}
 use Rattle.object_core.specs.ElfRows.{elf_table_of, row_in}
 use Rattle.object_elf.specs.Counts.{elf_counts}
 use Rattle.object_elf.specs.Layout.{Part, parts_of, start_of, file_length}
@@ -42,3 +41,7 @@ pub record IsPlanOf (plan : PlanData) (o : ObjectData) : Type 0 where
 pub record HasPlaces (places : List ℕ) (length : ℕ) (t : ElfTable) : Type 0 where
   pub starts : places ≡ places_of (parts_of t)
   pub end : length ≡ file_length t
+
+-- an answer that tells the length of a table's file; none where its parts don't start at these places, or its file is longer than 64 bits tell
+abbrev pub LengthAt : Option ℕ → List ℕ → ElfTable → Type 0
+LengthAt answer places t = MatchOption answer (places ≡ places_of (parts_of t) → 2 ^ 64 ≤ file_length t) (λ length. HasPlaces places length t)

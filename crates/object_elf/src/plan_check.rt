@@ -1,11 +1,11 @@
 //! Whether a plan is an object's own. Nothing here takes memory.
 
-ghost use Rattle.std.specs.Prelude.{◌≡◌, ◌+◌, ◌<◌, ◌≤◌, ◌^◌, true, false, Some, MatchOption, map, length, slice_get};
+ghost use Rattle.std.specs.Prelude.{◌≡◌, ◌+◌, ◌<◌, ◌^◌, true, false, map, length};
 ghost use Rattle.object_core.specs.ElfRows.{elf_table_of};
-ghost use Rattle.object_elf.specs.Layout.{start_after, end_after, file_length, parts_of, symbol_table_row};
+ghost use Rattle.object_elf.specs.Layout.{parts_of, symbol_table_row};
 ghost use Rattle.object_elf.specs.Limits.{IsWithinLimits};
-ghost use Rattle.object_elf.specs.PartView.{part_view, content_part_of, relocation_parts_from, EndsAt};
-ghost use Rattle.object_elf.specs.Plan.{HasPlaces, places_of, rows_of};
+ghost use Rattle.object_elf.specs.PartView.{part_view, content_part_of, relocation_parts_from, EndsAt, PartEndsAt};
+ghost use Rattle.object_elf.specs.Plan.{LengthAt, rows_of};
 ghost use Rattle.object_elf.specs.PlainCounts.{plain_counts};
 
 use crate::layout::{
@@ -49,7 +49,7 @@ pub(crate) fn has_rows(rows: &[u32], object: &Object) -> bool
 /// ends past the numbers of 64 bits.
 pub(crate) fn length_at(places: &[u64], object: &Object) -> Option<u64>
     requires { IsWithinLimits (plain_counts object.now) }
-    ensures { MatchOption result (places.now ≡ places_of (parts_of (elf_table_of object.now)) → 2 ^ 64 ≤ file_length (elf_table_of object.now)) (λ length. HasPlaces places.now length (elf_table_of object.now)) }
+    ensures { LengthAt result places.now (elf_table_of object.now) }
 {
     let table = row_of_symbol_table(object);
     if places.len() != table as usize + 2 {
@@ -122,7 +122,7 @@ fn end_at(places: &[u64], number: usize, end: u64, parts: &[PartHeader<'_>]) -> 
 
 /// Where a part ends behind this place, if it starts at the place of this number.
 fn end_of_part(places: &[u64], number: usize, end: u64, part: &PartHeader<'_>) -> Option<u64>
-    ensures { MatchOption result (slice_get places.now number ≡ Some (start_after end (part_view part.now)) → 2 ^ 64 ≤ end_after end (part_view part.now)) (λ next. (slice_get places.now number ≡ Some (start_after end (part_view part.now))) × (next ≡ end_after end (part_view part.now))) }
+    ensures { PartEndsAt result places.now number end (part_view part.now) }
 {
     let start = start_behind(end, part)?;
     if number >= places.len() || places[number] != start {

@@ -20,6 +20,8 @@ mod query_tests;
 #[cfg(test)]
 mod read_tests;
 #[cfg(test)]
+mod repeated_name_tests;
+#[cfg(test)]
 mod target_files;
 #[cfg(test)]
 mod target_tests;
