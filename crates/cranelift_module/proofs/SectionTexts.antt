@@ -1,11 +1,11 @@
 -- Texts that are cut at a separator.
-use Rattle.std.proofs.Common.{◌≡◌, ℕ, ◌<◌, Bool, true, false, List, [], ◌∷◌, length, slice_get, Option, Some, None, refl, sym, ◌∙◌, subst, arith, ◌==◌, ap, lt-ltb, ◌+◌, ◌≤◌, Result, Ok, Err, IfSome, bit_or, ltb-false, Bor}
-use Rattle.std.specs.Prelude.{nat_lt, is_none, is_some, fold, unwrap_or, codes}
+use Rattle.std.proofs.Common.{◌≡◌, ℕ, ◌<◌, Bool, true, false, List, [], ◌∷◌, length, slice_get, Option, Some, None, refl, sym, ◌∙◌, arith, ◌==◌, ap, lt-ltb, ◌+◌, ◌≤◌, Ok, Err, IfSome, bit_or, Bor}
+use Rattle.std.specs.Prelude.{nat_lt, is_some, fold, unwrap_or, codes}
 use Rattle.std.specs.List.{slice_split, position_or_len, before_first, after_first}
 use Rattle.std.proofs.lemmas.List.Splits.{slice_split_first, slice_split_none, length-slice_split}
 use Rattle.std.proofs.lemmas.List.Sums.{fails_before_first}
 use Rattle.std.proofs.lemmas.List.Elements.{All-from_get_or}
-use Rattle.cranelift_module.specs.SectionText.{HasParts, IsCut, parts_between, with_part, with_attribute, both_bits, number_named, section_types, section_attributes, pieces_of, all_attributes, section_of_parts, seen}
+use Rattle.cranelift_module.specs.SectionText.{HasParts, IsCut, parts_between, with_attribute, both_bits, number_named, section_types, section_attributes, pieces_of, all_attributes, section_of_parts, seen}
 use Rattle.cranelift_module.specs.declared.error.SectionFault.TheVariants.{UnknownAttribute, TooManyParts}
 
 pub cut_there : (c : ℕ) (bs part rest : List ℕ) → position_or_len (λ b. b == c) bs < length bs → part ≡ before_first (λ b. b == c) bs → rest ≡ after_first (λ b. b == c) bs

@@ -1,16 +1,17 @@
 //! Tests that a back end makes before it accepts a call, each exact for its causes and their order.
 
-ghost use Rattle.std.specs.Prelude.{◌≡◌, ◌++◌, Some, None, OnOk, IfErr, IfOk, slice_get, string_bytes, codes, decimal, option_map, ◌==◌, take, length, List, []};
+ghost use Rattle.std.specs.Prelude.{◌≡◌, Some, None, OnOk, IfErr, IfOk, slice_get, string_bytes, option_map, ◌==◌};
 ghost use Rattle.std.specs.List.{position_from};
-ghost use Rattle.cranelift_module.specs.Refusal.{Tells, zero_byte, undefinable, undefinable_object, undefinable_data, description_cause, loose_function, loose_value, is_outside, reloc_cause, bad_reloc_from, is_bad_align, function_name};
+ghost use Rattle.cranelift_module.specs.Refusal.{Tells, zero_byte, undefinable, undefinable_object, undefinable_data, description_cause, section_cause, text_cause, are_bytes, is_macho, loose_function, loose_value, is_bad_align};
 ghost use Rattle.cranelift_module.specs.Texts.{user_text};
-ghost use Rattle.cranelift_module.specs.declared.reloc.ModuleReloc.{ModuleReloc};
+ghost use Rattle.cranelift_module.specs.Init.{init_view};
+ghost use Rattle.cranelift_module.specs.SectionText.{answer_of};
 
 use crate::{
-    BackendCause, DataDeclaration, DataDescription, DataId, FuncId, ModuleDeclarations,
-    ModuleError, ModuleReloc, ModuleRelocTarget, ModuleResult,
+    BackendCause, DataDeclaration, DataDescription, DataId, FuncId, Init, ModuleDeclarations,
+    ModuleError, ModuleRelocTarget, ModuleResult, SectionFault, parse_section,
 };
-use ir_core::{FuncRef, GlobalValue, TargetIsa, elf_number, field_width};
+use ir_core::{BinaryFormat, FuncRef, GlobalValue, is_zero_fill_type};
 use std::alloc::{AllocError, Global};
 
 /// Refuses a text that has a zero byte, by the place of the first.
@@ -76,18 +77,19 @@ fn undeclared_function(alloc: Global, id: FuncId) -> Result<String, AllocError>
 }
 
 /// Refuses the definition of a data object that isn't declared, is an import or is defined already; then that
-/// by a description without contents, of a bad alignment, with a reference past its imports, with a section of
-/// its own for thread-local data, or with a zero byte in the text of that section. The first of these is told.
-/// Whether it is defined already is handed in.
+/// by a description without contents, of a bad alignment, with a reference past its imports, of thread-local data
+/// with a section of its own or in Mach-O, with a zero byte in the text of the section, or with a text that Mach-O
+/// refuses. The first of these is told. The file's format, and whether it is defined already, are handed in.
 pub fn check_data_definable(
     alloc: Global,
+    format: BinaryFormat,
     declarations: &ModuleDeclarations,
     defined: bool,
     id: DataId,
     desc: &DataDescription,
 ) -> ModuleResult<()>
-    ensures accepted { OnOk result (undefinable_data defined id desc.now (slice_get (declarations.now).objects id) ≡ None) }
-    ensures refused { IfErr result (λ e. Tells e (undefinable_data defined id desc.now (slice_get (declarations.now).objects id))) }
+    ensures accepted { OnOk result (undefinable_data format defined id desc.now (slice_get (declarations.now).objects id) ≡ None) }
+    ensures refused { IfErr result (λ e. Tells e (undefinable_data format defined id desc.now (slice_get (declarations.now).objects id))) }
 {
     let Some(object) = declarations.data(id) else {
         let text = undeclared_data(alloc, id)?;
@@ -96,7 +98,7 @@ pub fn check_data_definable(
     if let Err(error) = check_object(alloc, object, defined, id) {
         return Err(error);
     }
-    check_description(alloc, object.tls(), desc)
+    check_description(alloc, format, object.tls(), desc)
 }
 
 // Refuses the definition of an import, and a second one.
@@ -121,9 +123,14 @@ fn check_object(
 }
 
 // Refuses a description that can't define a data object with this thread-local mark.
-fn check_description(alloc: Global, tls: bool, desc: &DataDescription) -> ModuleResult<()>
-    ensures accepted { OnOk result (description_cause tls desc.now ≡ None) }
-    ensures refused { IfErr result (λ e. Tells e (description_cause tls desc.now)) }
+fn check_description(
+    alloc: Global,
+    format: BinaryFormat,
+    tls: bool,
+    desc: &DataDescription,
+) -> ModuleResult<()>
+    ensures accepted { OnOk result (description_cause format tls desc.now ≡ None) }
+    ensures refused { IfErr result (λ e. Tells e (description_cause format tls desc.now)) }
 {
     if desc.init().is_uninitialized() {
         return Err(ModuleError::Backend(BackendCause::NoContents));
@@ -140,10 +147,51 @@ fn check_description(alloc: Global, tls: bool, desc: &DataDescription) -> Module
         let text = value.to_string(alloc)?;
         return Err(ModuleError::Undeclared(text));
     }
-    if tls && desc.custom_section().is_some() {
+    if tls && (desc.custom_section().is_some() || is_macho(format)) {
         return Err(ModuleError::Backend(BackendCause::TlsPlace));
     }
-    check_no_zero_byte(desc.custom_section().unwrap_or("").as_bytes())
+    if let Err(error) = check_no_zero_byte(desc.custom_section().unwrap_or("").as_bytes()) {
+        return Err(error);
+    }
+    check_section(format, desc.init(), desc.custom_section())
+}
+
+fn is_macho(format: BinaryFormat) -> bool
+    ensures { result ≡ is_macho format }
+{
+    matches!(format, BinaryFormat::Macho)
+}
+
+// Refuses the text of a section by its fault, or where it asks for zero-fill and the contents are bytes.
+fn check_section(format: BinaryFormat, init: &Init, section: Option<&str>) -> ModuleResult<()>
+    ensures accepted { OnOk result (section_cause format (init_view init.now) (option_map (λ text. text.now) section.entry) ≡ None) }
+    ensures refused { IfErr result (λ e. Tells e (section_cause format (init_view init.now) (option_map (λ text. text.now) section.entry))) }
+{
+    match section {
+        Some(text) => check_text(init, parse_section(text, format)),
+        None => Ok(()),
+    }
+}
+
+fn check_text(init: &Init, text: Result<(&str, &str, u32), SectionFault>) -> ModuleResult<()>
+    ensures accepted { OnOk result (text_cause (init_view init.now) (answer_of text.entry) ≡ None) }
+    ensures refused { IfErr result (λ e. Tells e (text_cause (init_view init.now) (answer_of text.entry))) }
+{
+    match text {
+        Ok((_, _, flags)) => {
+            if is_zero_fill_type(flags) && are_bytes(init) {
+                return Err(ModuleError::Backend(BackendCause::ZerofillBytes));
+            }
+            Ok(())
+        }
+        Err(fault) => Err(ModuleError::Backend(BackendCause::BadSection(fault))),
+    }
+}
+
+fn are_bytes(init: &Init) -> bool
+    ensures { result ≡ are_bytes (init_view init.now) }
+{
+    matches!(init, Init::Bytes { .. })
 }
 
 // The first reference of a written function address that lies past the imported functions.
@@ -173,59 +221,6 @@ fn loose_value(desc: &DataDescription) -> Option<GlobalValue>
     match loose {
         Some(reloc) => Some(reloc.1),
         None => None,
-    }
-}
-
-/// Refuses the first relocation of a kind that the target lacks, or whose field leaves so many bytes of contents;
-/// where there are none, as zeros have none, each field leaves them.
-pub fn check_relocs(
-    isa: &TargetIsa,
-    size: Option<usize>,
-    relocs: &[ModuleReloc],
-) -> ModuleResult<()>
-    ensures accepted { OnOk result (bad_reloc_from isa.now size [] relocs.now ≡ None) }
-    ensures refused { IfErr result (λ e. Tells e (bad_reloc_from isa.now size [] relocs.now)) }
-{
-    for (index, reloc) in relocs.iter().enumerate() {
-        if let Err(error) = check_reloc(isa, size, index, reloc) {
-            return Err(error);
-        }
-    }
-    Ok(())
-}
-
-// Refuses the relocation of this number, by its kind or its field.
-fn check_reloc(
-    isa: &TargetIsa,
-    size: Option<usize>,
-    index: usize,
-    reloc: &ModuleReloc,
-) -> ModuleResult<()>
-    ensures accepted { (before : List ModuleReloc) → length before ≡ index → OnOk result (reloc_cause isa.now size before reloc.now ≡ None) }
-    ensures refused { (before : List ModuleReloc) → length before ≡ index → IfErr result (λ e. Tells e (reloc_cause isa.now size before reloc.now)) }
-{
-    if elf_number(isa.triple().architecture, reloc.kind).is_none() {
-        return Err(ModuleError::Backend(BackendCause::UnsupportedReloc {
-            index,
-            kind: reloc.kind,
-        }));
-    }
-    if is_outside(size, reloc) {
-        return Err(ModuleError::Backend(BackendCause::BadReloc {
-            index,
-            offset: reloc.offset,
-        }));
-    }
-    Ok(())
-}
-
-// Whether the field of a relocation leaves so many bytes.
-fn is_outside(size: Option<usize>, reloc: &ModuleReloc) -> bool
-    ensures { result ≡ is_outside size reloc.now }
-{
-    match size {
-        Some(size) => (size as u64) < u64::from(reloc.offset) + u64::from(field_width(reloc.kind)),
-        None => true,
     }
 }
 

@@ -10,10 +10,7 @@ use ir_core::BinaryFormat;
 /// What the text of a section asks for: in Mach-O the segment, the section and the flags, which are the type and the
 /// attributes together ("struct section_64"); the first check that the text fails is told. In other formats the whole
 /// text is the section's name.
-pub fn parse_section(
-    section: &str,
-    format: BinaryFormat,
-) -> Result<(&str, &str, u32), SectionFault>
+pub fn parse_section(section: &str, format: BinaryFormat) -> Result<(&str, &str, u32), SectionFault>
     ensures { answer_of result ≡ section_text format section.now }
 {
     match format {

@@ -3,7 +3,7 @@
 
 ghost use Rattle.std.specs.Prelude.{◌≡◌, ◌<◌, ◌-◌, ◌*◌, ◌^◌, ◌+ℤ◌, pos};
 ghost use Rattle.ir_core.specs.MachKind.{mach_x86_64_number, mach_aarch64_number, mach_number, has_kind_in};
-ghost use Rattle.ir_core.specs.MachO.{mach_cputype, is_in_field, is_in_record, stored_number, is_within, is_zero_addend, has_room};
+ghost use Rattle.ir_core.specs.MachO.{mach_cputype, is_in_field, is_in_record, stored_number, is_within, is_zero_addend, has_room, is_zero_fill_type};
 
 use crate::{Architecture, BinaryFormat, Reloc, elf_number};
 
@@ -97,6 +97,13 @@ fn numbers(r_type: u8, pcrel: bool, length: u8) -> Option<MachNumber>
         pcrel,
         length,
     })
+}
+
+/// Whether the low byte of a section's flags is a zero-fill type: S_ZEROFILL or S_THREAD_LOCAL_ZEROFILL.
+pub fn is_zero_fill_type(flags: u32) -> bool
+    ensures { result ≡ is_zero_fill_type flags }
+{
+    flags % 256 == 1 || flags % 256 == 0x12
 }
 
 /// Whether the addend is a number in the field: of all kinds on x86_64, and of pointers elsewhere.

@@ -1,4 +1,3 @@
-use Rattle.std.proofs.Common.{◌≡◌, ◌∷◌, [], List, ℕ}
 use Rattle.cranelift_module.proofs.SectionTexts.{cut_there, cut_nowhere}
 use Rattle.cranelift_module.proofs.section_text.cut_at.Goals as goal
 

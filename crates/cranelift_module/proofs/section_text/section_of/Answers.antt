@@ -1,5 +1,5 @@
-use Rattle.std.proofs.Common.{◌≡◌, ◌≤◌, sym, ◌∙◌, subst, Bool, true, false, Option, Some, Bor, List, ℕ, arith, length}
-use Rattle.cranelift_module.specs.SectionText.{HasParts, seen, section_of_parts}
+use Rattle.std.proofs.Common.{sym, ◌∙◌, subst, Bool, Option, Some, Bor, List, ℕ, arith}
+use Rattle.cranelift_module.specs.SectionText.{HasParts, seen}
 use Rattle.cranelift_module.proofs.SectionTexts.{attribute_told, more_told, section_told}
 use Rattle.cranelift_module.proofs.section_text.section_of.Goals as goal
 
