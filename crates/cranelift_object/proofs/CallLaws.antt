@@ -16,6 +16,7 @@ use Rattle.cranelift_module.specs.Rows.{FunctionRow, DataRow}
 use Rattle.cranelift_module.specs.Definitions.{Definition, definition_made, relocs_of, size_of, is_writable, is_thread_local}
 use Rattle.cranelift_module.specs.Init.{are_in_range, is_function_within, is_value_within}
 use Rattle.ir_core.specs.Target.{Target}
+use Rattle.ir_core.specs.declared.target.BinaryFormat.{BinaryFormat}
 use Rattle.cranelift_module.specs.LinkState.{LinkState, step}
 use Rattle.cranelift_module.specs.Refusal.{Refusal, Tells, refusal, refusal_told, backend, undeclared, zero_byte, function_clash, data_clash, undefinable, undefinable_object, undefinable_data, description_cause, loose_function, loose_value, bad_reloc_from, bytes_in, is_bad_align, is_defined, first_cause, refuse_if, duplicate_definition, function_name, data_name}
 use Rattle.cranelift_module.specs.IsCall.{IsCall}
@@ -56,10 +57,10 @@ unfolding refusal
 function_cause s id align xs relocs defined functions target e f g = rw (e, f, g) refl
 
 -- why a data object isn't defined, by what is in hand
-pub data_cause : (s : LinkState) (id : ℕ) (d : Description) (defined : Bool) (objects : List DataRow) (target : Target) → defined ≡ is_defined s (Data id) → objects ≡ s.objects → target ≡ s.target
-    → refusal s (define_data id d) ≡ option_or (undefinable_data defined id d (slice_get objects id)) (bad_reloc_from target (bytes_in (unwrap_or d.contents (bytes []))) [] (relocs_of d))
+pub data_cause : (s : LinkState) (id : ℕ) (d : Description) (defined : Bool) (objects : List DataRow) (target : Target) (format : BinaryFormat) → defined ≡ is_defined s (Data id) → objects ≡ s.objects → target ≡ s.target → format ≡ s.target.triple.binary_format
+    → refusal s (define_data id d) ≡ option_or (undefinable_data format defined id d (slice_get objects id)) (bad_reloc_from target (bytes_in (unwrap_or d.contents (bytes []))) [] (relocs_of d))
 unfolding refusal
-data_cause s id d defined objects target e f g = rw (e, f, g) refl
+data_cause s id d defined objects target format e f g k = rw (e, f, g, k) refl
 
 -- an error that tells the second of two causes
 pub tells_second : (e : ModuleError) (a b : Option Refusal) → a ≡ None → Tells e b → Tells e (option_or a b)
@@ -131,38 +132,38 @@ object_free defined id None h = absurd (cc)
 object_free defined id (Some r) h = not_refused defined (duplicate_definition (data_name r id)) (first_none _ _ (first_none _ _ h).1).0
 
 -- a data object that can be defined is declared
-pub data_declared : (defined : Bool) (id : ℕ) (d : Description) (objects : List DataRow) → undefinable_data defined id d (slice_get objects id) ≡ None → id < length objects
-data_declared defined id d objects h =
-    let row = object_row defined id (slice_get objects id) (first_none (undefinable_object defined id (slice_get objects id)) (description_cause (is_thread_local (slice_get objects id)) d) h).0 in
+pub data_declared : (format : BinaryFormat) (defined : Bool) (id : ℕ) (d : Description) (objects : List DataRow) → undefinable_data format defined id d (slice_get objects id) ≡ None → id < length objects
+data_declared format defined id d objects h =
+    let row = object_row defined id (slice_get objects id) (first_none (undefinable_object defined id (slice_get objects id)) (description_cause format (is_thread_local (slice_get objects id)) d) h).0 in
     slice_get_within objects id row.0 row.1
 
 -- it has no definition yet
-pub data_free : (defined : Bool) (id : ℕ) (d : Description) (objects : List DataRow) → undefinable_data defined id d (slice_get objects id) ≡ None → defined ≡ false
-data_free defined id d objects h = object_free defined id (slice_get objects id) (first_none (undefinable_object defined id (slice_get objects id)) (description_cause (is_thread_local (slice_get objects id)) d) h).0
+pub data_free : (format : BinaryFormat) (defined : Bool) (id : ℕ) (d : Description) (objects : List DataRow) → undefinable_data format defined id d (slice_get objects id) ≡ None → defined ≡ false
+data_free format defined id d objects h = object_free defined id (slice_get objects id) (first_none (undefinable_object defined id (slice_get objects id)) (description_cause format (is_thread_local (slice_get objects id)) d) h).0
 
-description_none : (defined : Bool) (id : ℕ) (d : Description) (objects : List DataRow) → undefinable_data defined id d (slice_get objects id) ≡ None → description_cause (is_thread_local (slice_get objects id)) d ≡ None
-description_none defined id d objects h = (first_none (undefinable_object defined id (slice_get objects id)) (description_cause (is_thread_local (slice_get objects id)) d) h).1
+description_none : (format : BinaryFormat) (defined : Bool) (id : ℕ) (d : Description) (objects : List DataRow) → undefinable_data format defined id d (slice_get objects id) ≡ None → description_cause format (is_thread_local (slice_get objects id)) d ≡ None
+description_none format defined id d objects h = (first_none (undefinable_object defined id (slice_get objects id)) (description_cause format (is_thread_local (slice_get objects id)) d) h).1
 
--- the second to the sixth of six causes don't hold
-pub record SixNone (b c e f : Option Refusal) : Type 0 where
+-- of seven causes the second to the fourth and the sixth don't hold
+pub record SevenNone (b c e f : Option Refusal) : Type 0 where
   pub second : b ≡ None
   pub third : c ≡ None
   pub fourth : e ≡ None
   pub sixth : f ≡ None
 
-six_none : (a b c e t f : Option Refusal) → first_cause (a ∷ b ∷ c ∷ e ∷ t ∷ f ∷ []) ≡ None → SixNone b c e f
-six_none a b c e t f h =
-    let h1 = first_none a (first_cause (b ∷ c ∷ e ∷ t ∷ f ∷ [])) h in
-    let h2 = first_none b (first_cause (c ∷ e ∷ t ∷ f ∷ [])) h1.1 in
-    let h3 = first_none c (first_cause (e ∷ t ∷ f ∷ [])) h2.1 in
-    let h4 = first_none e (first_cause (t ∷ f ∷ [])) h3.1 in
-    let h5 = first_none t (first_cause (f ∷ [])) h4.1 in
-    let h6 = first_none f None h5.1 in
+seven_none : (a b c e t f g : Option Refusal) → first_cause (a ∷ b ∷ c ∷ e ∷ t ∷ f ∷ g ∷ []) ≡ None → SevenNone b c e f
+seven_none a b c e t f g h =
+    let h1 = first_none a (first_cause (b ∷ c ∷ e ∷ t ∷ f ∷ g ∷ [])) h in
+    let h2 = first_none b (first_cause (c ∷ e ∷ t ∷ f ∷ g ∷ [])) h1.1 in
+    let h3 = first_none c (first_cause (e ∷ t ∷ f ∷ g ∷ [])) h2.1 in
+    let h4 = first_none e (first_cause (t ∷ f ∷ g ∷ [])) h3.1 in
+    let h5 = first_none t (first_cause (f ∷ g ∷ [])) h4.1 in
+    let h6 = first_none f (first_cause (g ∷ [])) h5.1 in
     record { second = h2.0; third = h3.0; fourth = h4.0; sixth = h6.0 }
 
-described : (tls : Bool) (d : Description) → description_cause tls d ≡ None
-    → SixNone (refuse_if (is_bad_align (unwrap_or d.align 1)) (backend (BadAlign (unwrap_or d.align 1)))) (option_map (λ (a : ℕ × ℕ). undeclared (codes "fn" ++ decimal a.1)) (loose_function d)) (option_map (λ (a : ℕ × ℕ × ℤ). undeclared (codes "gv" ++ decimal a.1)) (loose_value d)) (zero_byte (unwrap_or d.section []))
-described tls d h = six_none _ _ _ _ _ _ h
+described : (format : BinaryFormat) (tls : Bool) (d : Description) → description_cause format tls d ≡ None
+    → SevenNone (refuse_if (is_bad_align (unwrap_or d.align 1)) (backend (BadAlign (unwrap_or d.align 1)))) (option_map (λ (a : ℕ × ℕ). undeclared (codes "fn" ++ decimal a.1)) (loose_function d)) (option_map (λ (a : ℕ × ℕ × ℤ). undeclared (codes "gv" ++ decimal a.1)) (loose_value d)) (zero_byte (unwrap_or d.section []))
+described format tls d h = seven_none _ _ _ _ _ _ _ h
 
 map_none : {A B : Type 0} (f : A → B) (o : Option A) → option_map f o ≡ None → o ≡ None
 map_none f None h = refl
@@ -181,9 +182,9 @@ both_true : (a b : Bool) → a ≡ true → b ≡ true → (a && b) ≡ true
 both_true a b h k = rw (h, k) refl
 
 -- the references of an accepted description are in range
-pub described_range : (defined : Bool) (id : ℕ) (d : Description) (objects : List DataRow) → undefinable_data defined id d (slice_get objects id) ≡ None → are_in_range d ≡ true
-described_range defined id d objects h =
-    let none = described (is_thread_local (slice_get objects id)) d (description_none defined id d objects h) in
+pub described_range : (format : BinaryFormat) (defined : Bool) (id : ℕ) (d : Description) (objects : List DataRow) → undefinable_data format defined id d (slice_get objects id) ≡ None → are_in_range d ≡ true
+described_range format defined id d objects h =
+    let none = described format (is_thread_local (slice_get objects id)) d (description_none format defined id d objects h) in
     both_true (list_all (is_function_within (length d.function_decls)) d.function_relocs) (list_all (is_value_within (length d.data_decls)) d.data_relocs)
     (all_pass (is_function_within (length d.function_decls)) d.function_relocs (map_none _ (loose_function d) none.third)) (all_pass (is_value_within (length d.data_decls)) d.data_relocs (map_none _ (loose_value d) none.fourth))
 
@@ -192,10 +193,10 @@ pub judged_in_hand : (target : Target) (d : Description) (size : Option ℕ) (re
 judged_in_hand target d size relocs e f = rw (e, f) refl
 
 -- what holds of an accepted definition of a data object
-pub data_body : (target : Target) (functions count id : ℕ) (desc : Description) (defined : Bool) (objects rows : List DataRow) (d : Definition) → definition_made rows (define_data id desc) ≡ Some d → undefinable_data defined id desc (slice_get objects id) ≡ None → id < count
+pub data_body : (target : Target) (functions count id : ℕ) (desc : Description) (format : BinaryFormat) (defined : Bool) (objects rows : List DataRow) (d : Definition) → definition_made rows (define_data id desc) ≡ Some d → undefinable_data format defined id desc (slice_get objects id) ≡ None → id < count
     → bad_reloc_from target (bytes_in (unwrap_or desc.contents (bytes []))) [] (relocs_of desc) ≡ None → size_of d.contents < 2 ^ 64 → (d.identifier ≡ Data id) × IsBody target functions count d
-data_body target functions count id desc defined objects rows d made free below judged sized =
-    let none = described (is_thread_local (slice_get objects id)) desc (description_none defined id desc objects free) in
+data_body target functions count id desc format defined objects rows d made free below judged sized =
+    let none = described format (is_thread_local (slice_get objects id)) desc (description_none format defined id desc objects free) in
     let good = not_refused (is_bad_align (unwrap_or desc.align 1)) (backend (BadAlign (unwrap_or desc.align 1))) none.second in
     let is : record { identifier = Data id; contents = unwrap_or desc.contents (bytes []); align = unwrap_or desc.align 1; relocs = relocs_of desc; section = desc.section; used = desc.used; writable = is_writable (slice_get rows id) } ≡ d = cc in (
       sym (ap (λ (x : Definition). x.identifier) is),

@@ -237,7 +237,7 @@ opened_there o marks j d h at =
     let ds : List Definition = take j o.state.definitions in
     slice_get_within (opened o.settings o.state ds d).sections (number_behind o.settings o.state ds d) _ (opened_section o.settings o.state ds d (before_shareable o marks j h) (body_shareable o d (body_at o marks j d h at)))
 
-or_left : (a b : Bool) → (a || b) ≡ false → a ≡ false
+pub or_left : (a b : Bool) → (a || b) ≡ false → a ≡ false
 or_left true b h = absurd (cc)
 or_left false b h = refl
 

@@ -12,12 +12,17 @@ use Rattle.std.specs.Fmt.{digits, digits_onto, digit_glyph, decimal}
 use Rattle.std.proofs.lemmas.List.Folds.{list_any-append}
 use Rattle.ir_core.specs.Target.{Target}
 use Rattle.cranelift_module.specs.Kind.{elf_number, field_width}
+use Rattle.ir_core.specs.MachKind.{has_kind_in}
+use Rattle.ir_core.specs.declared.reloc.Reloc.{Reloc}
+use Rattle.ir_core.specs.declared.target.Architecture.{Architecture}
+use Rattle.ir_core.specs.declared.target.BinaryFormat.{BinaryFormat}
+use Rattle.ir_core.specs.declared.target.BinaryFormat.TheVariants.{Elf}
 use Rattle.cranelift_module.specs.declared.error.BackendCause.TheVariants.{NulByte, UnsupportedReloc, BadReloc}
 use Rattle.cranelift_module.specs.declared.reloc.ModuleReloc.{ModuleReloc}
 use Rattle.ir_core.specs.declared.reloc.KnownSymbol.{KnownSymbol}
 use Rattle.ir_core.specs.declared.reloc.KnownSymbol.TheVariants.{ElfGlobalOffsetTable, CoffTlsIndex}
 use Rattle.cranelift_module.specs.Call.{Contents, bytes, zeros}
-use Rattle.cranelift_module.specs.Refusal.{Refusal, function_name, data_name, zero_byte, backend, refuse_if, has_kind, is_outside, bytes_in, reloc_cause, bad_reloc_from, is_same_identifier}
+use Rattle.cranelift_module.specs.Refusal.{Refusal, function_name, data_name, zero_byte, backend, refuse_if, has_kind, is_outside, is_bad_field, is_refused_in, bytes_in, reloc_cause, bad_reloc_from, is_same_identifier}
 use Rattle.cranelift_module.specs.Definitions.{Definition, size_of}
 use Rattle.cranelift_module.specs.LinkState.{LinkState}
 use Rattle.cranelift_module.specs.Rows.{FunctionRow, DataRow}
@@ -57,7 +62,7 @@ use Rattle.cranelift_object.proofs.TargetLaws.{IsHad, IsReached, was_true, unmap
 use Rattle.byte_core.proofs.Lists.{get_append}
 use Rattle.cranelift_object.proofs.OpenLaws.{sections_length}
 use Rattle.cranelift_object.proofs.FinishLaws.{causes_none}
-use Rattle.cranelift_object.proofs.DefineLaws.{created_function, created_data, class_counted, room_elf, good_least}
+use Rattle.cranelift_object.proofs.DefineLaws.{created_function, created_data, class_counted, room_elf, good_least, or_left}
 
 -- -- names
 
@@ -334,10 +339,10 @@ IsGood target size r = (has_kind target r.kind ≡ true) × (is_outside size r �
 good_one : (target : Target) (size : Option ℕ) (before : List ModuleReloc) (r : ModuleReloc) → reloc_cause target size before r ≡ None → IsGood target size r
 good_one target size before r h =
     let kinds : Option Refusal = refuse_if (not (has_kind target r.kind)) (backend (UnsupportedReloc (length before) r.kind)) in
-    let fields : Option Refusal = refuse_if (is_outside size r) (backend (BadReloc (length before) r.offset)) in
+    let fields : Option Refusal = refuse_if (is_bad_field target size before r) (backend (BadReloc (length before) r.offset)) in
     let parts = causes_none kinds (option_or fields None) h in (
       was_true (has_kind target r.kind) (not_refused (not (has_kind target r.kind)) (backend (UnsupportedReloc (length before) r.kind)) parts.0),
-      not_refused (is_outside size r) (backend (BadReloc (length before) r.offset)) (causes_none fields None parts.1).0,
+      or_left (is_outside size r) (is_refused_in target.triple.binary_format target.triple.architecture before r) (not_refused (is_bad_field target size before r) (backend (BadReloc (length before) r.offset)) (causes_none fields None parts.1).0),
     )
 
 -- the relocations of which none is refused
@@ -346,6 +351,9 @@ good_relocs target size before [] h = All-nil (IsGood target size)
 good_relocs target size before (r ∷ rs) h =
     let parts = causes_none (reloc_cause target size before r) (bad_reloc_from target size (before ++ r ∷ []) rs) h in
     All-cons (IsGood target size) r rs (good_one target size before r parts.0) (good_relocs target size (before ++ r ∷ []) rs parts.1)
+
+elf_kind : (format : BinaryFormat) (architecture : Architecture) (kind : Reloc) → format ≡ Elf → has_kind_in format architecture kind ≡ true → is_some (elf_number architecture kind) ≡ true
+elf_kind format architecture kind is h = subst (λ (f : BinaryFormat). has_kind_in f architecture kind ≡ true) is h
 
 -- a field that isn't outside lies in bytes
 field_bytes : (c : Contents) (section : Option (List ℕ)) (r : ModuleReloc) → is_outside (bytes_in c) r ≡ false → (are_counted c section ≡ false) × (r.offset + field_width r.kind ≤ size_of c)
@@ -418,7 +426,7 @@ formed_one_relocation o marks es x c p r h are body stored within good reached =
     let field = field_bytes p.definition.contents p.definition.section r good.1 in
     let room = room_elf o.state.target.triple.binary_format (size_of p.definition.contents) h.begun.format in
     let inside = within (stored ∙ field.0) in
-    let number = some_is (elf_number o.state.target.triple.architecture r.kind) good.0 in
+    let number = some_is (elf_number o.state.target.triple.architecture r.kind) (elf_kind o.state.target.triple.binary_format o.state.target.triple.architecture r.kind h.begun.format good.0) in
     record { field = (r.kind, number, omega (arith, field.1, room, inside)); symbol = formed_target o marks es (target_of o.settings o.state r.name) h are reached }
 
 All-flat : {A B : Type 0} (P : B → Type 0) (f : A → List B) (xs : List A) → All (λ x. All P (f x)) xs → All P (flat_map f xs)

@@ -214,7 +214,7 @@ impl Module for ObjectModule {
         ) {
             return Err(error);
         }
-        if let Err(error) = check_relocs(self.builder.isa(), Some(bytes.len()), relocs) {
+        if let Err(error) = check_relocs(alloc, self.builder.isa(), Some(bytes.len()), relocs) {
             return Err(error);
         }
         let definition = Definition::of_function(alloc, func_id, alignment, bytes, relocs)?;
@@ -226,9 +226,11 @@ impl Module for ObjectModule {
     #[tactic(auto, unfolding(cranelift_module::specs::LinkState::step, cranelift_module::specs::Refusal::refusal))]
     fn define_data(&mut self, data_id: DataId, desc: &DataDescription) -> ModuleResult<()> {
         let alloc = self.builder.alloc();
+        let format = self.builder.isa().triple().binary_format;
         let defined = self.is_object_defined(data_id);
         if let Err(error) = check_data_definable(
             alloc,
+            format,
             &self.declarations,
             defined,
             data_id,
@@ -237,7 +239,7 @@ impl Module for ObjectModule {
             return Err(error);
         }
         let relocs = pointers_of(alloc, desc)?;
-        if let Err(error) = check_relocs(self.builder.isa(), bytes_in(desc.init()), &relocs) {
+        if let Err(error) = check_relocs(alloc, self.builder.isa(), bytes_in(desc.init()), &relocs) {
             return Err(error);
         }
         let writable = self.is_writable(data_id);
