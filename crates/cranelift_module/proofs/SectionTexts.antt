@@ -1,12 +1,11 @@
 -- Texts that are cut at a separator.
-use Rattle.std.proofs.Common.{◌≡◌, ℕ, ◌<◌, Bool, true, false, List, [], ◌∷◌, length, slice_get, Option, Some, None, refl, sym, ◌∙◌, arith, ◌==◌, ap, lt-ltb, ◌+◌, ◌≤◌, Ok, Err, IfSome, bit_or, Bor}
-use Rattle.std.specs.Prelude.{nat_lt, is_some, fold, unwrap_or, codes}
+use Rattle.std.proofs.Common.{◌≡◌, ℕ, ◌<◌, false, List, [], ◌∷◌, length, slice_get, Option, Some, None, refl, sym, ◌∙◌, arith, ◌==◌, ap, lt-ltb, ◌+◌, IfSome, Bor}
+use Rattle.std.specs.Prelude.{nat_lt, is_some, fold}
 use Rattle.std.specs.List.{slice_split, position_or_len, before_first, after_first}
 use Rattle.std.proofs.lemmas.List.Splits.{slice_split_first, slice_split_none, length-slice_split}
 use Rattle.std.proofs.lemmas.List.Sums.{fails_before_first}
 use Rattle.std.proofs.lemmas.List.Elements.{All-from_get_or}
-use Rattle.cranelift_module.specs.SectionText.{HasParts, IsCut, parts_between, with_attribute, both_bits, number_named, section_types, section_attributes, pieces_of, all_attributes, section_of_parts, seen}
-use Rattle.cranelift_module.specs.declared.error.SectionFault.TheVariants.{UnknownAttribute, TooManyParts}
+use Rattle.cranelift_module.specs.SectionText.{HasParts, IsCut, parts_between, with_attribute, both_bits, number_named, section_attributes, pieces_of, seen}
 
 pub cut_there : (c : ℕ) (bs part rest : List ℕ) → position_or_len (λ b. b == c) bs < length bs → part ≡ before_first (λ b. b == c) bs → rest ≡ after_first (λ b. b == c) bs
     → slice_split (λ x. x == c) bs ≡ part ∷ slice_split (λ x. x == c) rest
@@ -38,9 +37,6 @@ many_parts : (a b c d : List ℕ) (parts : List (List ℕ)) → nat_lt 4 (length
 many_parts a b c d [] = refl
 many_parts a b c d (x ∷ parts) = lt-ltb 4 (length (a ∷ b ∷ c ∷ d ∷ x ∷ parts)) (omega arith) ∙ sym (lt-ltb 0 (length (x ∷ parts)) (omega arith))
 
-not_alone : (a b : List ℕ) (parts : List (List ℕ)) → nat_lt (length (a ∷ b ∷ parts)) 2 ≡ false
-not_alone a b parts = grind arith
-
 -- the parts that three cuts behind the first one give
 pub parts_found : (all : List (List ℕ)) (segment : List ℕ) (text name text1 type_name text2 attributes text3 : Option (List ℕ)) → all ≡ segment ∷ parts_between 44 text
     → IsCut text name text1 → IsCut text1 type_name text2 → IsCut text2 attributes text3 → HasParts all segment name type_name attributes (is_some text3)
@@ -48,17 +44,17 @@ parts_found all s text None text1 t text2 a text3 e c1 c2 c3 =
     let n2 = cut_none text1 t text2 (c1.last refl) c2 in
     let n3 = cut_none text2 a text3 n2.1 c3 in
     let l = e ∙ ap (λ l. s ∷ l) (left_none text text1 (c1.last refl) c1) in
-    record { first = ap (λ l. slice_get l 0) l; second = ap (λ l. slice_get l 1) l; third = ap (λ l. slice_get l 2) l ∙ sym n2.0; fourth = ap (λ l. slice_get l 3) l ∙ sym n3.0; alone = ap (λ l. nat_lt (length l) 2) l; more = ap (λ l. nat_lt 4 (length l)) l ∙ ap is_some (sym n3.1) }
+    record { first = ap (λ l. slice_get l 0) l; second = ap (λ l. slice_get l 1) l; third = ap (λ l. slice_get l 2) l ∙ sym n2.0; fourth = ap (λ l. slice_get l 3) l ∙ sym n3.0; more = ap (λ l. nat_lt 4 (length l)) l ∙ ap is_some (sym n3.1) }
 parts_found all s text (Some n) text1 None text2 a text3 e c1 c2 c3 =
     let n3 = cut_none text2 a text3 (c2.last refl) c3 in
     let l = e ∙ ap (λ l. s ∷ l) (goes_on n text text1 [] (left_none text1 text2 (c2.last refl) c2) c1) in
-    record { first = ap (λ l. slice_get l 0) l; second = ap (λ l. slice_get l 1) l; third = ap (λ l. slice_get l 2) l; fourth = ap (λ l. slice_get l 3) l ∙ sym n3.0; alone = ap (λ l. nat_lt (length l) 2) l; more = ap (λ l. nat_lt 4 (length l)) l ∙ ap is_some (sym n3.1) }
+    record { first = ap (λ l. slice_get l 0) l; second = ap (λ l. slice_get l 1) l; third = ap (λ l. slice_get l 2) l; fourth = ap (λ l. slice_get l 3) l ∙ sym n3.0; more = ap (λ l. nat_lt 4 (length l)) l ∙ ap is_some (sym n3.1) }
 parts_found all s text (Some n) text1 (Some t) text2 None text3 e c1 c2 c3 =
     let l = e ∙ ap (λ l. s ∷ l) (goes_on n text text1 (t ∷ []) (goes_on t text1 text2 [] (left_none text2 text3 (c3.last refl) c3) c2) c1) in
-    record { first = ap (λ l. slice_get l 0) l; second = ap (λ l. slice_get l 1) l; third = ap (λ l. slice_get l 2) l; fourth = ap (λ l. slice_get l 3) l; alone = ap (λ l. nat_lt (length l) 2) l; more = ap (λ l. nat_lt 4 (length l)) l ∙ ap is_some (sym (c3.last refl)) }
+    record { first = ap (λ l. slice_get l 0) l; second = ap (λ l. slice_get l 1) l; third = ap (λ l. slice_get l 2) l; fourth = ap (λ l. slice_get l 3) l; more = ap (λ l. nat_lt 4 (length l)) l ∙ ap is_some (sym (c3.last refl)) }
 parts_found all s text (Some n) text1 (Some t) text2 (Some a) text3 e c1 c2 c3 =
     let l = e ∙ ap (λ l. s ∷ l) (goes_on n text text1 (t ∷ a ∷ parts_between 44 text3) (goes_on t text1 text2 (a ∷ parts_between 44 text3) c3.parts c2) c1) in
-    record { first = ap (λ l. slice_get l 0) l; second = ap (λ l. slice_get l 1) l; third = ap (λ l. slice_get l 2) l; fourth = ap (λ l. slice_get l 3) l; alone = ap (λ l. nat_lt (length l) 2) l ∙ not_alone s n (t ∷ a ∷ parts_between 44 text3); more = ap (λ l. nat_lt 4 (length l)) l ∙ many_parts s n t a (parts_between 44 text3) ∙ sym (some_left text3) }
+    record { first = ap (λ l. slice_get l 0) l; second = ap (λ l. slice_get l 1) l; third = ap (λ l. slice_get l 2) l; fourth = ap (λ l. slice_get l 3) l; more = ap (λ l. nat_lt 4 (length l)) l ∙ many_parts s n t a (parts_between 44 text3) ∙ sym (some_left text3) }
 
 -- an attribute that isn't known makes the whole unknown
 none_stays : (names : List (List ℕ)) → fold with_attribute None names ≡ None
@@ -78,30 +74,6 @@ left_of (Some text) = length text + 1
 pub less_left : (text : Option (List ℕ)) (behind : Option (Bor (List ℕ))) (pieces : List ℕ) → text ≡ Some pieces → IfSome behind (λ rest. length rest.now < length pieces) → left_of (seen behind) < left_of text
 less_left text None pieces is shorter = rw is (omega arith)
 less_left text (Some rest) pieces is shorter = rw is (omega (arith, shorter))
-
--- -- the answers for a text by its parts
-
-pub attribute_told : (all : List (List ℕ)) (s n : List ℕ) (t a : Option (List ℕ)) (more : Bool) (section_type : ℕ) → HasParts all s (Some n) t a more → length s ≤ 16 → length n ≤ 16
-    → number_named section_types (unwrap_or t (codes "regular")) ≡ Some section_type → all_attributes (pieces_of a) ≡ None → section_of_parts all ≡ Err UnknownAttribute
-attribute_told all s n t a more section_type h short_s short_n known unknown =
-    let short1 : nat_lt 16 (length s) ≡ false = grind (arith, short_s) in
-    let short2 : nat_lt 16 (length n) ≡ false = grind (arith, short_n) in
-    rw (h.first, h.second, h.third, h.fourth, h.alone, h.more, short1, short2, known, unknown) refl
-
-pub more_told : (all : List (List ℕ)) (s n : List ℕ) (t a : Option (List ℕ)) (section_type attributes : ℕ) → HasParts all s (Some n) t a true → length s ≤ 16 → length n ≤ 16
-    → number_named section_types (unwrap_or t (codes "regular")) ≡ Some section_type → all_attributes (pieces_of a) ≡ Some attributes → section_of_parts all ≡ Err TooManyParts
-more_told all s n t a section_type attributes h short_s short_n known all_known =
-    let short1 : nat_lt 16 (length s) ≡ false = grind (arith, short_s) in
-    let short2 : nat_lt 16 (length n) ≡ false = grind (arith, short_n) in
-    rw (h.first, h.second, h.third, h.fourth, h.alone, h.more, short1, short2, known, all_known) refl
-
-pub section_told : (all : List (List ℕ)) (s n : List ℕ) (t a : Option (List ℕ)) (section_type attributes : ℕ) → HasParts all s (Some n) t a false → length s ≤ 16 → length n ≤ 16
-    → number_named section_types (unwrap_or t (codes "regular")) ≡ Some section_type → all_attributes (pieces_of a) ≡ Some attributes
-    → section_of_parts all ≡ Ok (record { segment = s; name = n; flags = bit_or section_type attributes })
-section_told all s n t a section_type attributes h short_s short_n known all_known =
-    let short1 : nat_lt 16 (length s) ≡ false = grind (arith, short_s) in
-    let short2 : nat_lt 16 (length n) ≡ false = grind (arith, short_n) in
-    rw (h.first, h.second, h.third, h.fourth, h.alone, h.more, short1, short2, known, all_known) refl
 
 pub same_some : (text : Option (Bor (List ℕ))) → is_some (seen text) ≡ is_some text
 same_some None = refl

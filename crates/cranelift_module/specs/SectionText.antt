@@ -83,15 +83,12 @@ abbrev pub all_attributes : List (List ℕ) → Option ℕ
 all_attributes names = fold with_attribute (Some 0) names
 
 -- the third part, `regular` where it is absent, as a type
-abbrev pub type_in : List (List ℕ) → Option ℕ
-type_in parts = number_named section_types (unwrap_or (slice_get parts 2) (codes "regular"))
+abbrev pub type_in : Option (List ℕ) → Option ℕ
+type_in type_name = number_named section_types (unwrap_or type_name (codes "regular"))
 
 -- the fourth part as attributes
-abbrev pub attributes_in : List (List ℕ) → Option ℕ
-attributes_in parts = all_attributes (pieces_of (slice_get parts 3))
-
-abbrev pub part_at : List (List ℕ) → ℕ → List ℕ
-part_at parts k = unwrap_or (slice_get parts k) []
+abbrev pub attributes_in : Option (List ℕ) → Option ℕ
+attributes_in attributes = all_attributes (pieces_of attributes)
 
 -- -- the checks
 
@@ -102,16 +99,16 @@ abbrev pub first_fault : List (Option SectionFault) → Option SectionFault
 first_fault [] = None
 first_fault (fault ∷ faults) = option_or fault (first_fault faults)
 
--- the first check that the parts of a text fail
-abbrev pub section_fault : List (List ℕ) → Option SectionFault
-section_fault parts =
+-- the first check that the parts of a text fail: a segment, a section, a type and attributes, and whether there are more
+abbrev pub section_fault : List ℕ → Option (List ℕ) → Option (List ℕ) → Option (List ℕ) → Bool → Option SectionFault
+section_fault segment name type_name attributes has_more =
     first_fault (
-    fault_if (nat_lt 16 (length (part_at parts 0))) SegmentLong
-    ∷ fault_if (nat_lt (length parts) 2) NoComma
-    ∷ fault_if (nat_lt 16 (length (part_at parts 1))) SectionLong
-    ∷ fault_if (is_none (type_in parts)) UnknownType
-    ∷ fault_if (is_none (attributes_in parts)) UnknownAttribute
-    ∷ fault_if (nat_lt 4 (length parts)) TooManyParts
+    fault_if (nat_lt 16 (length segment)) SegmentLong
+    ∷ fault_if (is_none name) NoComma
+    ∷ fault_if (nat_lt 16 (length (unwrap_or name []))) SectionLong
+    ∷ fault_if (is_none (type_in type_name)) UnknownType
+    ∷ fault_if (is_none (attributes_in attributes)) UnknownAttribute
+    ∷ fault_if has_more TooManyParts
     ∷ [])
 
 abbrev pub unless : {A : Type 0} → Option SectionFault → A → Result A SectionFault
@@ -119,11 +116,15 @@ unless None answer = Ok answer
 unless (Some fault) answer = Err fault
 
 -- the type and the attributes together
-abbrev pub flags_in : List (List ℕ) → ℕ
-flags_in parts = bit_or (unwrap_or (type_in parts) 0) (unwrap_or (attributes_in parts) 0)
+abbrev pub flags_in : Option (List ℕ) → Option (List ℕ) → ℕ
+flags_in type_name attributes = bit_or (unwrap_or (type_in type_name) 0) (unwrap_or (attributes_in attributes) 0)
+
+abbrev pub section_by : List ℕ → Option (List ℕ) → Option (List ℕ) → Option (List ℕ) → Bool → Result SectionText SectionFault
+section_by segment name type_name attributes has_more =
+    unless (section_fault segment name type_name attributes has_more) (record { segment = segment; name = unwrap_or name []; flags = flags_in type_name attributes })
 
 abbrev pub section_of_parts : List (List ℕ) → Result SectionText SectionFault
-section_of_parts parts = unless (section_fault parts) (record { segment = part_at parts 0; name = part_at parts 1; flags = flags_in parts })
+section_of_parts parts = section_by (unwrap_or (slice_get parts 0) []) (slice_get parts 1) (slice_get parts 2) (slice_get parts 3) (nat_lt 4 (length parts))
 
 -- what a text asks for, or its first fault; other formats take the whole text as the name
 abbrev pub section_text : BinaryFormat → List ℕ → Result SectionText SectionFault
@@ -146,7 +147,6 @@ pub record HasParts (parts : List (List ℕ)) (segment : List ℕ) (name type_na
   pub second : slice_get parts 1 ≡ name
   pub third : slice_get parts 2 ≡ type_name
   pub fourth : slice_get parts 3 ≡ attributes
-  pub alone : nat_lt (length parts) 2 ≡ is_none name
   pub more : nat_lt 4 (length parts) ≡ has_more
 
 -- a part before some parts, where there is one

@@ -1,8 +1,8 @@
 //! The text under which a definition asks for a section. In Mach-O it is a segment, a section, a type and attributes, as
 //! the directive `.section` of Apple's assembler takes them.
 
-ghost use Rattle.std.specs.Prelude.{◌≡◌, ◌∷◌, ◌<◌, ℕ, List, IfSome, length, codes, unwrap_or};
-ghost use Rattle.cranelift_module.specs.SectionText.{HasParts, IsCut, number_named, section_types, section_attributes, parts_between, parts_of_text, pieces_of, all_attributes, section_of_parts, section_text, answer_of, seen};
+ghost use Rattle.std.specs.Prelude.{◌≡◌, ◌∷◌, ◌<◌, IfSome, length};
+ghost use Rattle.cranelift_module.specs.SectionText.{HasParts, IsCut, number_named, section_types, section_attributes, parts_between, parts_of_text, type_in, attributes_in, section_by, section_text, answer_of, seen};
 
 use crate::SectionFault;
 use ir_core::BinaryFormat;
@@ -59,7 +59,7 @@ fn next_part(text: Option<&str>) -> (Option<&str>, Option<&str>)
 
 // What the parts of a text ask for, or the first check that they fail.
 fn section_of<'a>(parts: &Parts<'a>) -> Result<(&'a str, &'a str, u32), SectionFault>
-    ensures { (all : List (List ℕ)) → HasParts all (parts.now).segment.now (seen (parts.now).name) (seen (parts.now).type_name) (seen (parts.now).attributes) (parts.now).has_more → answer_of result ≡ section_of_parts all }
+    ensures { answer_of result ≡ section_by (parts.now).segment.now (seen (parts.now).name) (seen (parts.now).type_name) (seen (parts.now).attributes) (parts.now).has_more }
 {
     if parts.segment.len() > 16 {
         return Err(SectionFault::SegmentLong);
@@ -84,7 +84,7 @@ fn section_of<'a>(parts: &Parts<'a>) -> Result<(&'a str, &'a str, u32), SectionF
 
 // All attributes of a text together, where each is known.
 fn attributes_of(text: Option<&str>) -> Option<u32>
-    ensures { result ≡ all_attributes (pieces_of (seen text.entry)) }
+    ensures { result ≡ attributes_in (seen text.entry) }
 {
     let mut bits = 0;
     let mut rest = text;
@@ -113,7 +113,7 @@ fn cut_at(text: &str, separator: char) -> (&str, Option<&str>)
 
 // The type that the third part names, `regular` where it is absent.
 fn type_of(type_name: Option<&str>) -> Option<u32>
-    ensures { result ≡ number_named section_types (unwrap_or (seen type_name.entry) (codes "regular")) }
+    ensures { result ≡ type_in (seen type_name.entry) }
 {
     match type_name {
         Some(name) => type_named(name),
