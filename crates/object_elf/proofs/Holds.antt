@@ -28,7 +28,7 @@ find_here : (test : ℕ → Bool) (a k : ℕ) (rest : Option ℕ) → (a ≡ k) 
 find_here test a k rest (inl same) passes none later = rw (same, passes) refl
 find_here test a k rest (inr h) passes none later = rw (none a (omega arith) (omega arith)) (later h)
 
-here_or_later : (a k : ℕ) → a ≤ k → (a ≡ k) ⊎ (a + 1 ≤ k)
+pub here_or_later : (a k : ℕ) → a ≤ k → (a ≡ k) ⊎ (a + 1 ≤ k)
 here_or_later a k h = grind (arith)
 
 find_from : (test : ℕ → Bool) (a n k : ℕ) → a ≤ k → k < a + n → test k ≡ true → ((j : ℕ) → a ≤ j → j < k → test j ≡ false) → find test (range_with_len a n) ≡ Some k
