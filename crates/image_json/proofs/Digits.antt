@@ -1,6 +1,8 @@
 -- Hexadecimal digits need no escape in a JSON text.
-use Rattle.std.proofs.Common.{◌≡◌, ℕ, ◌+◌, ◌/◌, ◌%◌, ◌<◌, List, [], ◌∷◌, ◌++◌, refl, arith, append_assoc, slice_index, Bool, true}
-use Rattle.std.specs.List.{All, list_all}
+use Rattle.std.proofs.Common.{◌≡◌, ℕ, ◌+◌, ◌-◌, ◌/◌, ◌%◌, ◌<◌, ◌≤◌, ◌==◌, sym, List, [], ◌∷◌, ◌++◌, refl, arith, append_assoc, slice_index, Bool, true}
+use Rattle.std.specs.List.{All, list_all, range_with_len}
+use Rattle.std.proofs.lemmas.Bool.{eqb-true}
+use Rattle.std.proofs.lemmas.List.FromFn.{length-range_with_len, get_or-range_with_len}
 use Rattle.std.specs.Str.{bytes_eq}
 use Rattle.std.proofs.lemmas.Slice.Eq.{bytes_eq-Decides}
 use Rattle.std.proofs.lemmas.List.Sums.{AllPass-from_list_all}
@@ -33,3 +35,26 @@ pub written_hex : (out first second new bytes : List ℕ) → All (λ x. x < 256
     → new ≡ out ++ 34 ∷ (escape (encode_lower bytes) ++ 34 ∷ [])
 written_hex out first second new bytes h e f g =
     rw (escape_hex bytes h, g, f, e, append_assoc, append_assoc) refl
+
+-- ---- a digit is computed
+
+abbrev is_low : ℕ → Bool
+is_low d = slice_index lower_digits d == d + 48
+
+abbrev is_high : ℕ → Bool
+is_high d = slice_index lower_digits d == d + 87
+
+-- the digits 0 to 9
+pub low_digit : (d : ℕ) → d < 10 → d + 48 ≡ slice_index lower_digits d
+low_digit d h =
+    let test = AllPass-from_list_all is_low (range_with_len 0 10) refl d 0 (rw (length-range_with_len 0 10) h) in
+    let here : 0 + d ≡ d = omega arith in
+    sym (eqb-true (slice_index lower_digits d) (d + 48) (rw (get_or-range_with_len 0 10 d 0 h, here) at test))
+
+-- the digits a to f
+pub high_digit : (d : ℕ) → d < 16 → 10 ≤ d → d + 87 ≡ slice_index lower_digits d
+high_digit d h g =
+    let place : 10 + (d - 10) ≡ d = omega arith in
+    let few : d - 10 < 6 = omega arith in
+    let test = AllPass-from_list_all is_high (range_with_len 10 6) refl (d - 10) 0 (rw (length-range_with_len 10 6) few) in
+    sym (eqb-true (slice_index lower_digits d) (d + 87) (rw (get_or-range_with_len 10 6 (d - 10) 0 few, place) at test))
