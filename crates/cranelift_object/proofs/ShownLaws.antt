@@ -1,18 +1,15 @@
 -- The linkage of each declared identifier is shown by its row.
-use Rattle.std.proofs.Common.{◌≡◌, ◌≢◌, ℕ, zero, suc, ◌+◌, ◌-◌, ◌/◌, ◌*◌, ◌<◌, ◌==◌, ◌||◌, ◌&&◌, not, List, [], ◌∷◌, ◌++◌, length, take, map, Bool, true, false, cond, Option, Some, None, refl, ap, sym, ◌∙◌, subst, arith, inl, inr, length-append, slice_get}
-use Rattle.std.specs.Prelude.{filter, count_by, find, option_map, option_and_then}
-use Rattle.std.specs.List.{All, list_any, enumerate_from, position_or_len}
-use Rattle.std.proofs.lemmas.Bool.{ne_eqb, cases_Bool}
-use Rattle.std.proofs.lemmas.List.{length-map}
+use Rattle.std.proofs.Common.{◌≡◌, ℕ, zero, suc, ◌+◌, ◌-◌, ◌<◌, ◌==◌, ◌||◌, ◌&&◌, not, List, [], ◌∷◌, ◌++◌, length, take, map, Bool, true, false, cond, Option, Some, None, refl, ap, sym, ◌∙◌, subst, arith, slice_get}
+use Rattle.std.specs.Prelude.{filter, count_by, find, option_map}
+use Rattle.std.specs.List.{All, list_any, enumerate_from}
+use Rattle.std.proofs.lemmas.Bool.{ne_eqb}
 use Rattle.std.proofs.lemmas.List.Sums.{length-filter}
-use Rattle.byte_core.proofs.Lists.{get_left, get_right, get_map, get_filter, get_within, get_exists}
+use Rattle.byte_core.proofs.Lists.{get_left, get_right, get_map, get_filter, get_within}
 use Rattle.ir_core.specs.Target.{Target}
-use Rattle.image_read.specs.ElfImage.{ElfSymbolData, ElfImageData, ElfReads}
-use Rattle.object_core.specs.declared.kinds.SymbolKind.{SymbolKind}
+use Rattle.image_read.specs.ElfImage.{ElfImageData, ElfReads}
 use Rattle.object_core.specs.declared.kinds.SymbolKind.TheVariants as kind
 use Rattle.object_core.specs.Object.{SymbolData, is_local, is_global}
 use Rattle.object_core.specs.ElfRows.{elf_symbol, elf_table_of, row_in}
-use Rattle.object_core.specs.LinkTable.{ElfTableSymbol}
 use Rattle.object_core.specs.Appending.{file_symbol}
 use Rattle.object_elf.specs.ElfHolds.{ElfHolds}
 use Rattle.object_elf.specs.Fitting.{FitsElf}
@@ -35,12 +32,10 @@ use Rattle.cranelift_object.specs.Placing.{Placed, placed}
 use Rattle.cranelift_object.specs.Targets.{identifier, extras}
 use Rattle.cranelift_object.specs.Linked.{defined_at, named_symbol, identifier_symbol, function_symbol, data_symbol, extra_symbol, symbols_of, object_of, row_of}
 use Rattle.cranelift_object.specs.EndCause.{end_cause, missing_function, missing_data, first_missing_function, first_missing_data}
-use Rattle.cranelift_object.specs.Partial.{placed_of}
-use Rattle.cranelift_object.specs.ShownLinkage.{linkage_shown, IsFinished, table_for, identifier_row, ShowsIdentifier, ShowLinkages, table_rows}
-use Rattle.cranelift_object.proofs.CallLaws.{not_refused}
+use Rattle.cranelift_object.specs.ShownLinkage.{linkage_shown, IsFinished, table_for, identifier_row, ShowLinkages, table_rows}
 use Rattle.cranelift_object.proofs.ClassLaws.{placed_definitions}
 use Rattle.cranelift_object.proofs.CreationLaws.{place_is, function_stands, data_stands}
-use Rattle.cranelift_object.proofs.FinishLaws.{causes_none, end_parts, missing_step}
+use Rattle.cranelift_object.proofs.FinishLaws.{causes_none, end_parts}
 use Rattle.cranelift_object.proofs.StateSound.{IsSound, MayDefine, sound_state}
 
 -- ---- what a row shows
@@ -130,12 +125,12 @@ defined_as settings s id =
     ∙ ap (list_any (λ (d : Definition). is_same_identifier id d.identifier)) (placed_definitions settings s s.definitions)
 
 placed_fits : (settings : Settings) (s : LinkState) (id : FuncOrDataId) (linkage : Linkage) (b : Bool) → is_defined s id ≡ b → (b ≡ true → is_definable linkage ≡ true) → (b ≡ false → requires_definition linkage ≡ false) → Fits linkage (defined_at (placed settings s) id)
-placed_fits settings s id linkage true e may no =
+placed_fits settings s id linkage true e may wants =
     let found = any_found (λ (p : Placed). is_same_identifier id p.definition.identifier) (placed settings s) (defined_as settings s id ∙ e) in
     rw found.1 (may refl)
-placed_fits settings s id linkage false e may no =
+placed_fits settings s id linkage false e may wants =
     let none = find_none (λ (p : Placed). is_same_identifier id p.definition.identifier) (placed settings s) (defined_as settings s id ∙ e) in
-    rw none (no refl)
+    rw none (wants refl)
 
 -- ---- what has to be defined is
 
@@ -245,11 +240,12 @@ identifier_shown settings s (Func k) linkage sound ended h = function_row_shown 
 identifier_shown settings s (Data k) linkage sound ended h = data_row_shown settings s k (slice_get s.objects k) linkage sound ended refl h
 
 pub linkages_shown : (settings : Settings) (target : Target) (calls : List Call) → IsFinished target calls → ShowLinkages settings target calls (table_rows settings target calls)
+unfolding shown_from
 linkages_shown settings target calls finished id linkage h =
     let s = state_of target calls in
     let marks = marks-state target calls id 0 0 in
-    let held : linkage_of calls id ≡ linkage_held s id = marks.1.0 in
-    let named : name_of calls id ≡ name_held s id = marks.1.1.0 in
+    let held : linkage_of calls id ≡ linkage_held s id = marks.1 in
+    let named : name_of calls id ≡ name_held s id = marks.2 in
     let sound = sound_state target calls finished.accepted in
     let shown = identifier_shown settings s id linkage sound finished.ended (sym held ∙ h) in
     record {

@@ -1,6 +1,6 @@
 -- What holds of the state that accepted calls leave: identifiers are numbered, and what is defined may be.
-use Rattle.std.proofs.Common.{◌≡◌, ℕ, zero, suc, ◌+◌, ◌==◌, ◌||◌, not, List, [], ◌∷◌, ◌++◌, length, Bool, true, false, cond, Option, Some, None, refl, ap, sym, ◌∙◌, subst, arith, inl, inr, length-append, append-nil, slice_get}
-use Rattle.std.specs.Prelude.{option_map, option_to_list}
+use Rattle.std.proofs.Common.{◌≡◌, ℕ, zero, suc, ◌+◌, ◌||◌, not, List, [], ◌∷◌, ◌++◌, length, Bool, true, false, cond, Option, Some, None, refl, ap, sym, ◌∙◌, subst, arith, length-append, slice_get}
+use Rattle.std.specs.Prelude.{option_map}
 use Rattle.std.specs.Option.{option_or}
 use Rattle.std.specs.List.{list_any}
 use Rattle.std.proofs.lemmas.Bool.{not-false}
@@ -12,12 +12,13 @@ use Rattle.cranelift_module.specs.declared.linkage.Linkage.TheVariants.{Import, 
 use Rattle.cranelift_module.specs.declared.identifiers.FuncOrDataId.{FuncOrDataId}
 use Rattle.cranelift_module.specs.declared.identifiers.FuncOrDataId.TheVariants.{Func, Data}
 use Rattle.cranelift_module.specs.Linkage.{merge, is_definable}
-use Rattle.cranelift_module.specs.Call.{Call, Description, declare_function, declare_anonymous_function, declare_data, declare_anonymous_data, define_function, define_data}
-use Rattle.cranelift_module.specs.Definitions.{Definition, definition_made, is_thread_local}
-use Rattle.cranelift_module.specs.Rows.{FunctionRow, DataRow}
+use Rattle.cranelift_module.specs.Call.{Call, declare_function, declare_anonymous_function, declare_data, declare_anonymous_data, define_function, define_data}
+use Rattle.ir_core.specs.Moments.{moments}
+use Rattle.cranelift_module.specs.Definitions.{Definition, definitions_of}
+use Rattle.cranelift_module.specs.Rows.{FunctionRow, DataRow, functions_of, objects_of, creation}
 use Rattle.cranelift_module.specs.LinkState.{LinkState, state_of, step, steps, with_first, is_function_named, is_data_named, raised_function, raised_data}
 use Rattle.cranelift_module.specs.Marks.{linkage_held}
-use Rattle.cranelift_module.specs.Refusal.{Refusal, refusal, is_same_identifier, is_defined, undefinable, undefinable_object, undefinable_data, description_cause, invalid_import_definition, function_name, data_name, bad_reloc, refuse_if}
+use Rattle.cranelift_module.specs.Refusal.{Refusal, refusal, is_same_identifier, is_defined, undefinable, undefinable_object, invalid_import_definition, function_name, data_name}
 use Rattle.cranelift_object.specs.Kept.{IsNumbered}
 use Rattle.cranelift_object.specs.Commands.{first_refusal}
 use Rattle.cranelift_object.specs.Part.{first_refused}
@@ -207,7 +208,7 @@ sound_steps s j [] sound h = sound
 sound_steps s j (c ∷ cs) sound h = sound_steps_from s j c cs sound (λ next free. sound_steps (step s c) (j + 1) cs next free) (refusal s c) refl h
 
 sound_none : (target : Target) → IsSound (state_of target [])
-unfolding state_of
+unfolding state_of functions_of objects_of creation definitions_of moments
 sound_none target = record { order = (refl, refl); defined = λ id h. absurd (cc) }
 
 none_of_map : {A B : Type 0} (f : A → B) (o : Option A) → option_map f o ≡ None → o ≡ None

@@ -1,5 +1,5 @@
 -- What the symbol table of a part's ELF file shows of the part's declarations: System V gABI, "Symbol Table".
-use Rattle.std.specs.Prelude.{◌≡◌, ℕ, ◌-◌, ◌/◌, ◌==◌, List, map, slice_get, Option, Some, None, if◌then◌else◌}
+use Rattle.std.specs.Prelude.{◌≡◌, ℕ, ◌-◌, ◌/◌, ◌==◌, List, map, slice_get, Some, None, if◌then◌else◌}
 use Rattle.ir_core.specs.Target.{Target}
 use Rattle.object_core.specs.ElfRows.{elf_table_of, row_in}
 use Rattle.object_core.specs.LinkTable.{ElfTable}
