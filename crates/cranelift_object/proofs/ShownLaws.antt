@@ -124,7 +124,8 @@ defined_as settings s id =
     any_map (λ (d : Definition). is_same_identifier id d.identifier) (λ (p : Placed). p.definition) (placed settings s)
     ∙ ap (list_any (λ (d : Definition). is_same_identifier id d.identifier)) (placed_definitions settings s s.definitions)
 
-placed_fits : (settings : Settings) (s : LinkState) (id : FuncOrDataId) (linkage : Linkage) (b : Bool) → is_defined s id ≡ b → (b ≡ true → is_definable linkage ≡ true) → (b ≡ false → requires_definition linkage ≡ false) → Fits linkage (defined_at (placed settings s) id)
+placed_fits : (settings : Settings) (s : LinkState) (id : FuncOrDataId) (linkage : Linkage) (b : Bool) → is_defined s id ≡ b → (b ≡ true → is_definable linkage ≡ true) → (b ≡ false → requires_definition linkage ≡ false)
+    → Fits linkage (defined_at (placed settings s) id)
 placed_fits settings s id linkage true e may wants =
     let found = any_found (λ (p : Placed). is_same_identifier id p.definition.identifier) (placed settings s) (defined_as settings s id ∙ e) in
     rw found.1 (may refl)
@@ -227,11 +228,13 @@ data_shown settings s k row sound ended e =
       linkage = ap (option_map (λ (r : DataRow). r.linkage)) e ∙ ap (λ l. Some l) (sym (object_shown (data_name row k) row.linkage row.tls (defined_at (placed settings s) (Data k)) fits)) ∙ ap (λ x. Some (shown_from x)) (sym symbol);
     }
 
-function_row_shown : (settings : Settings) (s : LinkState) (k : ℕ) (row : Option FunctionRow) (linkage : Linkage) → IsSound s → end_cause s ≡ None → slice_get s.functions k ≡ row → option_map (λ (r : FunctionRow). r.linkage) row ≡ Some linkage → Shown s (placed settings s) (Func k)
+function_row_shown : (settings : Settings) (s : LinkState) (k : ℕ) (row : Option FunctionRow) (linkage : Linkage) → IsSound s → end_cause s ≡ None → slice_get s.functions k ≡ row → option_map (λ (r : FunctionRow). r.linkage) row ≡ Some linkage
+    → Shown s (placed settings s) (Func k)
 function_row_shown settings s k None linkage sound ended e h = absurd (cc)
 function_row_shown settings s k (Some row) linkage sound ended e h = function_shown settings s k row sound ended e
 
-data_row_shown : (settings : Settings) (s : LinkState) (k : ℕ) (row : Option DataRow) (linkage : Linkage) → IsSound s → end_cause s ≡ None → slice_get s.objects k ≡ row → option_map (λ (r : DataRow). r.linkage) row ≡ Some linkage → Shown s (placed settings s) (Data k)
+data_row_shown : (settings : Settings) (s : LinkState) (k : ℕ) (row : Option DataRow) (linkage : Linkage) → IsSound s → end_cause s ≡ None → slice_get s.objects k ≡ row → option_map (λ (r : DataRow). r.linkage) row ≡ Some linkage
+    → Shown s (placed settings s) (Data k)
 data_row_shown settings s k None linkage sound ended e h = absurd (cc)
 data_row_shown settings s k (Some row) linkage sound ended e h = data_shown settings s k row sound ended e
 
@@ -261,7 +264,8 @@ pub file_read : (settings : Settings) (target : Target) (calls : List Call) (fil
     → image ≡ image_for (table_for settings target calls)
 file_read settings target calls file image fits bytes holds reads = (held_image (table_for settings target calls) file fits bytes holds).only image reads
 
-pub file_linkages : (settings : Settings) (target : Target) (calls : List Call) (file : List ℕ) (image : ElfImageData) → IsFinished target calls → FitsElf (table_for settings target calls) → All (λ x. x < 256) file → ElfHolds file (table_for settings target calls) → ElfReads file image
+pub file_linkages : (settings : Settings) (target : Target) (calls : List Call) (file : List ℕ) (image : ElfImageData) → IsFinished target calls → FitsElf (table_for settings target calls) → All (λ x. x < 256) file
+    → ElfHolds file (table_for settings target calls) → ElfReads file image
     → ShowLinkages settings target calls image.symbols
 unfolding image_for
 file_linkages settings target calls file image finished fits bytes holds reads =

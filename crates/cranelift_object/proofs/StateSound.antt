@@ -38,7 +38,8 @@ pub record IsSound (s : LinkState) : Type 0 where
 
 -- ---- a list with its first fitting element changed
 
-first_length_past : {A : Type 0} (test : A → Bool) (change : A → A) (new x : A) (xs : List A) (b : Bool) → (list_any test xs ≡ true → length (with_first test change new xs) ≡ length xs) → (b || list_any test xs) ≡ true → length (cond b (change x ∷ xs) (x ∷ with_first test change new xs)) ≡ suc (length xs)
+first_length_past : {A : Type 0} (test : A → Bool) (change : A → A) (new x : A) (xs : List A) (b : Bool) → (list_any test xs ≡ true → length (with_first test change new xs) ≡ length xs) → (b || list_any test xs) ≡ true
+    → length (cond b (change x ∷ xs) (x ∷ with_first test change new xs)) ≡ suc (length xs)
 first_length_past test change new x xs true later h = refl
 first_length_past test change new x xs false later h = ap suc (later h)
 
@@ -46,7 +47,8 @@ first_length : {A : Type 0} (test : A → Bool) (change : A → A) (new : A) (xs
 first_length test change new [] h = absurd (cc)
 first_length test change new (x ∷ xs) h = first_length_past test change new x xs (test x) (first_length test change new xs) h
 
-first_longer_past : {A : Type 0} (test : A → Bool) (change : A → A) (new x : A) (xs : List A) (b : Bool) → (list_any test xs ≡ false → length (with_first test change new xs) ≡ length xs + 1) → (b || list_any test xs) ≡ false → length (cond b (change x ∷ xs) (x ∷ with_first test change new xs)) ≡ suc (length xs) + 1
+first_longer_past : {A : Type 0} (test : A → Bool) (change : A → A) (new x : A) (xs : List A) (b : Bool) → (list_any test xs ≡ false → length (with_first test change new xs) ≡ length xs + 1) → (b || list_any test xs) ≡ false
+    → length (cond b (change x ∷ xs) (x ∷ with_first test change new xs)) ≡ suc (length xs) + 1
 first_longer_past test change new x xs true later h = absurd (cc)
 first_longer_past test change new x xs false later h = omega (arith, later h)
 
@@ -67,7 +69,8 @@ first_keeps_end P new (suc zero) none h = h
 first_keeps_end P new (suc (suc k)) none h = h
 
 -- what holds of an element stays true of it, where the change keeps it
-first_keeps : {A : Type 0} (P : Option A → Type 0) (test : A → Bool) (change : A → A) (new : A) (xs : List A) (k : ℕ) → (P None → P (Some new)) → ((y : A) → P (Some y) → P (Some (change y))) → P (slice_get xs k) → P (slice_get (with_first test change new xs) k)
+first_keeps : {A : Type 0} (P : Option A → Type 0) (test : A → Bool) (change : A → A) (new : A) (xs : List A) (k : ℕ) → (P None → P (Some new)) → ((y : A) → P (Some y) → P (Some (change y))) → P (slice_get xs k)
+    → P (slice_get (with_first test change new xs) k)
 first_keeps P test change new [] k none each h = first_keeps_end P new k none h
 first_keeps P test change new (x ∷ xs) k none each h = first_keeps_past P test change new x xs k (test x) none each (λ j g. first_keeps P test change new xs j none each g) h
 
@@ -120,7 +123,8 @@ may_by_object : (defined : Bool) (id : ℕ) (row : Option DataRow) → undefinab
 may_by_object defined id None h = absurd (cc)
 may_by_object defined id (Some row) h = not-false (is_definable row.linkage) (not_refused (not (is_definable row.linkage)) (invalid_import_definition (data_name row id)) (causes_none _ _ h).0)
 
-one_more_from : (s : LinkState) (id other : FuncOrDataId) (held : Option Linkage) (a b : Bool) → is_defined s id ≡ a → is_same_identifier id other ≡ b → (is_defined s id ≡ true → MayDefine (linkage_held s id)) → MayDefine (linkage_held s other) → (a || (b || false)) ≡ true → MayDefine (linkage_held s id)
+one_more_from : (s : LinkState) (id other : FuncOrDataId) (held : Option Linkage) (a b : Bool) → is_defined s id ≡ a → is_same_identifier id other ≡ b → (is_defined s id ≡ true → MayDefine (linkage_held s id)) → MayDefine (linkage_held s other)
+    → (a || (b || false)) ≡ true → MayDefine (linkage_held s id)
 one_more_from s id other held true b e f before new h = before e
 one_more_from s id other held false true e f before new h = subst (λ (x : FuncOrDataId). MayDefine (linkage_held s x)) (sym (same_is id other f)) new
 one_more_from s id other held false false e f before new h = absurd (cc)
@@ -157,7 +161,8 @@ sound_step s (declare_function name linkage signature) sound free =
     }
   where
     declared : (id : FuncOrDataId) → MayDefine (linkage_held s id) → MayDefine (linkage_held (step s (declare_function name linkage signature)) id)
-    declared (Func k) h = first_keeps FunctionMay (is_function_named name) (raised_function linkage) (record { name = Some name; linkage = linkage; signature = signature }) s.functions k (λ none. absurd none) (λ row may. merge_definable row.linkage linkage may) h
+    declared (Func k) h =
+        first_keeps FunctionMay (is_function_named name) (raised_function linkage) (record { name = Some name; linkage = linkage; signature = signature }) s.functions k (λ none. absurd none) (λ row may. merge_definable row.linkage linkage may) h
     declared (Data k) h = h
 sound_step s (declare_anonymous_function signature) sound free =
     let new : FunctionRow = record { name = None; linkage = Local; signature = signature } in
@@ -180,7 +185,8 @@ sound_step s (declare_data name linkage writable tls) sound free =
   where
     declared : (id : FuncOrDataId) → MayDefine (linkage_held s id) → MayDefine (linkage_held (step s (declare_data name linkage writable tls)) id)
     declared (Func k) h = h
-    declared (Data k) h = first_keeps DataMay (is_data_named name) (raised_data linkage writable) (record { name = Some name; linkage = linkage; writable = writable; tls = tls }) s.objects k (λ none. absurd none) (λ row may. merge_definable row.linkage linkage may) h
+    declared (Data k) h =
+        first_keeps DataMay (is_data_named name) (raised_data linkage writable) (record { name = Some name; linkage = linkage; writable = writable; tls = tls }) s.objects k (λ none. absurd none) (λ row may. merge_definable row.linkage linkage may) h
 sound_step s (declare_anonymous_data writable tls) sound free =
     let new : DataRow = record { name = None; linkage = Local; writable = writable; tls = tls } in
     record {
@@ -198,7 +204,8 @@ sound_step s (define_data n d) sound free =
     let may = may_by_object (is_defined s (Data n)) n (slice_get s.objects n) (causes_none _ _ (causes_none _ _ free).0).0 in
     record { order = sound.order; defined = λ id h. one_more s id _ sound may h }
 
-sound_steps_from : (s : LinkState) (j : ℕ) (c : Call) (cs : List Call) → IsSound s → (IsSound (step s c) → first_refusal (step s c) (j + 1) cs ≡ None → IsSound (steps (step s c) cs)) → (o : Option Refusal) → refusal s c ≡ o → option_or (option_map (λ (r : Refusal). (j, r)) o) (first_refusal (step s c) (j + 1) cs) ≡ None → IsSound (steps (step s c) cs)
+sound_steps_from : (s : LinkState) (j : ℕ) (c : Call) (cs : List Call) → IsSound s → (IsSound (step s c) → first_refusal (step s c) (j + 1) cs ≡ None → IsSound (steps (step s c) cs)) → (o : Option Refusal) → refusal s c ≡ o
+    → option_or (option_map (λ (r : Refusal). (j, r)) o) (first_refusal (step s c) (j + 1) cs) ≡ None → IsSound (steps (step s c) cs)
 sound_steps_from s j c cs sound later None e h = later (sound_step s c sound e) h
 sound_steps_from s j c cs sound later (Some r) e h = absurd (cc)
 

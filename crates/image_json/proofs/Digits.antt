@@ -7,6 +7,9 @@ use Rattle.std.specs.Str.{bytes_eq}
 use Rattle.std.proofs.lemmas.Slice.Eq.{bytes_eq-Decides}
 use Rattle.std.proofs.lemmas.List.Sums.{AllPass-from_list_all}
 use Rattle.std.proofs.lemmas.List.Elements.{All-get_or, All-head, All-tail}
+use Rattle.std.proofs.lemmas.Fmt.{decimal_digit}
+use Rattle.serde_json.specs.Written.{compact_text}
+use Rattle.json_form.specs.Written.{number_value}
 use Rattle.json.specs.Print.{escape, escape_byte}
 use Rattle.hex.specs.Hex.{lower_digits, encode_with, encode_lower}
 
@@ -58,3 +61,7 @@ high_digit d h g =
     let few : d - 10 < 6 = omega arith in
     let test = AllPass-from_list_all is_high (range_with_len 10 6) refl (d - 10) 0 (rw (length-range_with_len 10 6) few) in
     sym (eqb-true (slice_index lower_digits d) (d + 87) (rw (get_or-range_with_len 10 6 (d - 10) 0 few, place) at test))
+
+-- a number below ten is one digit
+pub one_digit : (n : ℕ) → n < 10 → (48 + n) ∷ [] ≡ compact_text (number_value n)
+one_digit n h = sym (decimal_digit n h)

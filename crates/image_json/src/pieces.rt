@@ -10,9 +10,15 @@ ghost use Rattle.image_json.specs.ElfJson.{hex_value, integer_value};
 use std::alloc::AllocError;
 
 /// Appends a number in decimal digits.
+#[tactic(auto, using(crate::proofs::Digits::one_digit))]
 pub(crate) fn push_number(out: &mut Vec<u8>, number: u64) -> Result<(), AllocError>
     ensures { OnOk result (out.new.items ≡ out.old.items ++ compact_text (number_value number)) }
 {
+    // Most numbers of a table have one digit.
+    if number < 10 {
+        out.push(b'0' + number as u8)?;
+        return Ok(());
+    }
     let mut buffer = itoa::Buffer::new();
     out.extend_from_slice(buffer.format(number).as_bytes())?;
     Ok(())

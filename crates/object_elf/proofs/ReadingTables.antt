@@ -116,7 +116,8 @@ symbol_name_is t f k s e =
     let told : part_offset (elf_file t) t (symbol_table_row t + 1) ≡ start_of (parts_of t) (front_count t + 1) (string_part (codes ".strtab") (strings_size (symbol_names t))) =
     ap (λ (r : ElfSectionRow). r.offset) (sym (section_row_is t f (symbol_table_row t + 1)) ∙ strings_row_is t f) in
     rw (symbol_row_is t f k s e, table_row_is t f, strings_row_is t f)
-    (name_here (elf_file t) (symbol_names t) (start_of (parts_of t) (front_count t + 1) (string_part (codes ".strtab") (strings_size (symbol_names t)))) k s.name (rw told at (symbol_texts_stand t f)) (get_map (λ (x : ElfTableSymbol). x.name) t.symbols k s e) (f.symbols k s e).name)
+    (name_here (elf_file t) (symbol_names t) (start_of (parts_of t) (front_count t + 1) (string_part (codes ".strtab") (strings_size (symbol_names t)))) k s.name
+    (rw told at (symbol_texts_stand t f)) (get_map (λ (x : ElfTableSymbol). x.name) t.symbols k s e) (f.symbols k s e).name)
 
 abbrev IsPlace : ℕ → ℕ → Type 0
 IsPlace shnum shndx = (shndx < shnum) ⊎ ((0xff00 ≤ shndx) × (shndx ≤ 0xfffe))

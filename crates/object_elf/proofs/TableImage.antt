@@ -1,5 +1,6 @@
 -- The file of a table is read as the image of the table.
-use Rattle.std.proofs.Common.{◌≡◌, ◌≢◌, ℕ, zero, suc, ◌+◌, ◌-◌, ◌*◌, ◌/◌, ◌<◌, ◌≤◌, ◌==◌, ◌&&◌, List, [], ◌∷◌, ◌++◌, length, take, map, refl, ap, sym, ◌∙◌, arith, Option, Some, Bool, true, false, slice_get, inl, inr, cond, codes, append-nil, length-append, unwrap_or, subst}
+use Rattle.std.proofs.Common.{◌≡◌, ◌≢◌, ℕ, zero, suc, ◌+◌, ◌-◌, ◌*◌, ◌/◌, ◌<◌, ◌≤◌, ◌==◌, ◌&&◌, List, [], ◌∷◌, ◌++◌, length, take}
+use Rattle.std.proofs.Common.{map, refl, ap, sym, ◌∙◌, arith, Option, Some, Bool, true, false, slice_get, inl, inr, cond, codes, append-nil, length-append, unwrap_or, subst}
 use Rattle.std.specs.Prelude.{filter, count_by, flat_map}
 use Rattle.std.specs.List.{enumerate_from, range_with_len}
 use Rattle.std.proofs.lemmas.Bool.{and_parts, eqb-true, eq-eqb, not-false}
@@ -17,7 +18,8 @@ use Rattle.object_elf.specs.ElfHolds.{row_for, part_offset, record_for, relocati
 use Rattle.object_elf.specs.File.{elf_file, contents_of, relocation_contents, symbol_contents, string_contents}
 use Rattle.object_elf.specs.Fitting.{FitsElf}
 use Rattle.object_elf.specs.TableImage.{shown, section_shown, records_shown, strings_shown, sections_shown, symbol_shown, image_for, ReadsOnly}
-use Rattle.object_elf.proofs.PartCases.{front_count, relocates, part_case, length-enumerated, part_at_section, part_at_note, part_at_relocations, part_at_symbols, part_at_symbol_strings, part_at_section_strings, length-parts_of, contents_at_relocations, contents_at_symbols, contents_at_symbol_strings, contents_at_section_strings}
+use Rattle.object_elf.proofs.PartCases.{front_count, relocates, part_case, length-enumerated, part_at_section, part_at_note, part_at_relocations}
+use Rattle.object_elf.proofs.PartCases.{part_at_symbols, part_at_symbol_strings, part_at_section_strings, length-parts_of, contents_at_relocations, contents_at_symbols, contents_at_symbol_strings, contents_at_section_strings}
 use Rattle.object_elf.proofs.SectionRows.{part_here}
 use Rattle.object_elf.proofs.Contents.{section_contents_here, relocation_here}
 use Rattle.object_elf.proofs.Reading.{RowOf, row_of, row_of_part, header_is, shnum_is, section_row_is, section_name_is}
@@ -305,7 +307,8 @@ same_contents : (t : ElfTable) (k : ℕ) (c d : Aligned) → slice_get (contents
 same_contents t k c d e h = cc
 
 -- a part that is stored shows its contents
-stored_part : (t : ElfTable) → FitsElf t → (k : ℕ) (p : Part) (c : Aligned) → slice_get (parts_of t) k ≡ Some p → slice_get (contents_of t) k ≡ Some c → has_bytes (row_for t k p) ≡ true → is_stored p ≡ true → stored_bytes (elf_file t) (section_row (elf_file t) (k + 1)) ≡ c.bytes
+stored_part : (t : ElfTable) → FitsElf t → (k : ℕ) (p : Part) (c : Aligned) → slice_get (parts_of t) k ≡ Some p → slice_get (contents_of t) k ≡ Some c → has_bytes (row_for t k p) ≡ true → is_stored p ≡ true
+    → stored_bytes (elf_file t) (section_row (elf_file t) (k + 1)) ≡ c.bytes
 stored_part t f k p c e at has stored =
     let h = part_here t f k p e in
     ap (stored_bytes (elf_file t)) (row_of_part t f k (k + 1) p e refl)

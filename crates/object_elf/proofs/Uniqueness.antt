@@ -116,7 +116,8 @@ symbols_agree b c t from h first second room a (suc m) l =
     (at b h.first first ∙ sym (at c h.second second)) (omega arith)
 
 -- the names of a string section
-strings_agree : (b c : List ℕ) (names : List (List ℕ)) (p q first second : ℕ) → Agree b c p → first ≡ p → second ≡ p → bytes_at b first (length (string_bytes_of names)) ≡ string_bytes_of names → bytes_at c second (length (string_bytes_of names)) ≡ string_bytes_of names
+strings_agree : (b c : List ℕ) (names : List (List ℕ)) (p q first second : ℕ) → Agree b c p → first ≡ p → second ≡ p → bytes_at b first (length (string_bytes_of names)) ≡ string_bytes_of names
+    → bytes_at c second (length (string_bytes_of names)) ≡ string_bytes_of names
     → p + strings_size names ≡ q → Agree b c q
 strings_agree b c names p q first second a m n e f end =
     agree_told b c (string_bytes_of names) p (length (string_bytes_of names)) q a (rw m at e) (rw n at f) (omega (arith, length-string_bytes_of names, end))
@@ -161,11 +162,13 @@ part_agrees b c t k p f h here (is_relocations j place r) a = relocations_agree 
 part_agrees b c t k p f h here (is_symbols place same) a = table_agrees b c t k p h here place same a
 part_agrees b c t k p f h here (is_symbol_strings place same) a =
     let row : k + 1 ≡ symbol_table_row t + 1 = omega (arith, place) in
-    strings_agree b c (symbol_names t) (start_of (parts_of t) k p) (end_after (before t k) p) _ _ a (offset_is b t k (symbol_table_row t + 1) p h.first here.at row) (offset_is c t k (symbol_table_row t + 1) p h.second here.at row) h.first.symbol_texts h.second.symbol_texts
+    strings_agree b c (symbol_names t) (start_of (parts_of t) k p) (end_after (before t k) p) _ _ a
+    (offset_is b t k (symbol_table_row t + 1) p h.first here.at row) (offset_is c t k (symbol_table_row t + 1) p h.second here.at row) h.first.symbol_texts h.second.symbol_texts
     (sized_end t k (strings_size (symbol_names t)) p (rw (← same) refl) (rw (← same) refl))
 part_agrees b c t k p f h here (is_section_strings place same) a =
     let row : k + 1 ≡ symbol_table_row t + 2 = omega (arith, place) in
-    strings_agree b c (section_names t) (start_of (parts_of t) k p) (end_after (before t k) p) _ _ a (offset_is b t k (symbol_table_row t + 2) p h.first here.at row) (offset_is c t k (symbol_table_row t + 2) p h.second here.at row) h.first.section_texts h.second.section_texts
+    strings_agree b c (section_names t) (start_of (parts_of t) k p) (end_after (before t k) p) _ _ a
+    (offset_is b t k (symbol_table_row t + 2) p h.first here.at row) (offset_is c t k (symbol_table_row t + 2) p h.second here.at row) h.first.section_texts h.second.section_texts
     (sized_end t k (strings_size (section_names t)) p (rw (← same) refl) (rw (← same) refl))
 
 ends_inside : (b c : List ℕ) (t : ElfTable) → Both b c t → end_of_parts (parts_of t) ≤ headers_start t
@@ -185,7 +188,8 @@ agree_before b c t f h (suc k) l =
     let gap : before t k + (start_of (parts_of t) k p - before t k) ≡ start_of (parts_of t) k p = omega (arith, start) in
     let here : Here b t k p = record { at = found.1; room = omega (arith, next, end_within (parts_of t) (suc k), ends_inside b c t h, length_is b c t h) } in
     let behind : Agree b c (start_of (parts_of t) k p) =
-    agree_told b c (replicate (start_of (parts_of t) k p - before t k) 0) (before t k) (start_of (parts_of t) k p - before t k) (start_of (parts_of t) k p) (agree_before b c t f h k (omega (arith, l))) (h.first.padding k p found.1) (h.second.padding k p found.1) gap in
+    agree_told b c (replicate (start_of (parts_of t) k p - before t k) 0) (before t k) (start_of (parts_of t) k p - before t k) (start_of (parts_of t) k p)
+    (agree_before b c t f h k (omega (arith, l))) (h.first.padding k p found.1) (h.second.padding k p found.1) gap in
     agree_at b c (end_after (before t k) p) (before t (suc k)) (sym next) (part_agrees b c t k p f h here (part_case t k p found.1) behind)
 
 -- ---- the headers behind them
