@@ -17,6 +17,7 @@ pub fn number_field(bytes: &[u8], at: usize, width: usize) -> u64
 }
 
 /// The number of the 8 bytes at `at`.
+#[tactic(auto, using(crate::proofs::Halves::eight_bytes))]
 pub fn u64_field(bytes: &[u8], at: usize) -> u64
     requires { at + 8 ≤ length bytes.now }
     ensures { result ≡ number_at bytes.now at 8 }
@@ -27,6 +28,7 @@ pub fn u64_field(bytes: &[u8], at: usize) -> u64
 }
 
 /// The number of the 4 bytes at `at`.
+#[tactic(auto, using(crate::proofs::Halves::four_bytes))]
 pub fn u32_field(bytes: &[u8], at: usize) -> u32
     requires { at + 4 ≤ length bytes.now }
     ensures { result ≡ number_at bytes.now at 4 }
@@ -37,6 +39,7 @@ pub fn u32_field(bytes: &[u8], at: usize) -> u32
 }
 
 /// The number of the 2 bytes at `at`.
+#[tactic(auto, using(crate::proofs::Halves::two_bytes))]
 pub fn u16_field(bytes: &[u8], at: usize) -> u16
     requires { at + 2 ≤ length bytes.now }
     ensures { result ≡ number_at bytes.now at 2 }
