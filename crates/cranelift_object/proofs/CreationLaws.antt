@@ -79,7 +79,7 @@ place_is f d last_f last_d (Func k ∷ ids) (suc i) id h at =
 place_is f d last_f last_d (Data k ∷ ids) (suc i) id h at =
     rw (h.0, data_later f d last_f last_d ids i id h.1 at, place_is f (d + 1) last_f last_d ids i id h.1 at) (omega arith)
 
-same_is : (a b : FuncOrDataId) → is_same_identifier a b ≡ true → a ≡ b
+pub same_is : (a b : FuncOrDataId) → is_same_identifier a b ≡ true → a ≡ b
 same_is (Func a) (Func b) h = elim (eqb_tells a b) [ inl e ↦ ap (λ n. Func n) e.1 | inr e ↦ absurd (let k : false ≡ true = sym e.0 ∙ h in cc) ]
 same_is (Data a) (Data b) h = elim (eqb_tells a b) [ inl e ↦ ap (λ n. Data n) e.1 | inr e ↦ absurd (let k : false ≡ true = sym e.0 ∙ h in cc) ]
 same_is (Func a) (Data b) h = absurd (cc)

@@ -1,8 +1,8 @@
 //! Pieces of JSON texts: numbers, and bytes in hexadecimal.
 
-ghost use Rattle.std.specs.Prelude.{◌≡◌, ◌<◌, ◌++◌, OnOk};
+ghost use Rattle.std.specs.Prelude.{◌≡◌, ◌<◌, ◌++◌, ◌*◌, length, slice_index, OnOk};
 ghost use Rattle.std.specs.List.{All};
-ghost use Rattle.hex.specs.Hex.{encode_lower};
+ghost use Rattle.hex.specs.Hex.{encode_lower, lower_digits};
 ghost use Rattle.serde_json.specs.Written.{compact_text};
 ghost use Rattle.json_form.specs.Written.{number_value};
 ghost use Rattle.image_json.specs.ElfJson.{hex_value, integer_value};
@@ -10,9 +10,15 @@ ghost use Rattle.image_json.specs.ElfJson.{hex_value, integer_value};
 use std::alloc::AllocError;
 
 /// Appends a number in decimal digits.
+#[tactic(auto, using(crate::proofs::Digits::one_digit))]
 pub(crate) fn push_number(out: &mut Vec<u8>, number: u64) -> Result<(), AllocError>
     ensures { OnOk result (out.new.items ≡ out.old.items ++ compact_text (number_value number)) }
 {
+    // Most numbers of a table have one digit.
+    if number < 10 {
+        out.push(b'0' + number as u8)?;
+        return Ok(());
+    }
     let mut buffer = itoa::Buffer::new();
     out.extend_from_slice(buffer.format(number).as_bytes())?;
     Ok(())
@@ -47,8 +53,31 @@ fn push_digits(out: &mut Vec<u8>, bytes: &[u8]) -> Result<(), AllocError>
         return Err(AllocError);
     };
     out.resize(end, 0)?;
-    match hex::encode_to_slice(bytes, &mut out[start..]) {
-        Ok(()) => Ok(()),
-        Err(_) => Err(AllocError),
+    place_digits(&mut out[start..], bytes);
+    Ok(())
+}
+
+/// Writes two digits for each byte, the high four bits first.
+fn place_digits(out: &mut [u8], bytes: &[u8])
+    requires { length out.old ≡ 2 * length bytes.now }
+    ensures { out.new ≡ encode_lower bytes.now }
+{
+    'bytes: for i in 0..bytes.len() {
+        let byte = bytes[i];
+        out[2 * i] = digit(byte / 16);
+        out[2 * i + 1] = digit(byte % 16);
+    }
+}
+
+/// The digit of a number below 16. It is computed and not looked up, so that a loop over bytes takes many at a time.
+#[tactic(auto, using(crate::proofs::Digits::low_digit, crate::proofs::Digits::high_digit))]
+fn digit(number: u8) -> u8
+    requires { number < 16 }
+    ensures { result ≡ slice_index lower_digits number }
+{
+    if number < 10 {
+        number + b'0'
+    } else {
+        number + (b'a' - 10)
     }
 }

@@ -28,7 +28,7 @@ find_here : (test : ℕ → Bool) (a k : ℕ) (rest : Option ℕ) → (a ≡ k) 
 find_here test a k rest (inl same) passes none later = rw (same, passes) refl
 find_here test a k rest (inr h) passes none later = rw (none a (omega arith) (omega arith)) (later h)
 
-here_or_later : (a k : ℕ) → a ≤ k → (a ≡ k) ⊎ (a + 1 ≤ k)
+pub here_or_later : (a k : ℕ) → a ≤ k → (a ≡ k) ⊎ (a + 1 ≤ k)
 here_or_later a k h = grind (arith)
 
 find_from : (test : ℕ → Bool) (a n k : ℕ) → a ≤ k → k < a + n → test k ≡ true → ((j : ℕ) → a ≤ j → j < k → test j ≡ false) → find test (range_with_len a n) ≡ Some k
@@ -70,7 +70,8 @@ records_fit t f n row m s e h l =
 size_of_records : (n : ℕ) → 24 * n / 24 ≡ n
 size_of_records n = omega arith
 
-relocations_are : (t : ElfTable) → FitsElf t → (k j n : ℕ) (s : ElfTableSection) → slice_get t.sections n ≡ Some s → section_row (elf_file t) (k + 1) ≡ relocation_row_for t k n s → length t.sections + (1 + j) ≡ k → count_by is_relocated (take n t.sections) ≡ j → IsRelocations (elf_file t) (k + 1)
+relocations_are : (t : ElfTable) → FitsElf t → (k j n : ℕ) (s : ElfTableSection) → slice_get t.sections n ≡ Some s → section_row (elf_file t) (k + 1) ≡ relocation_row_for t k n s → length t.sections + (1 + j) ≡ k
+    → count_by is_relocated (take n t.sections) ≡ j → IsRelocations (elf_file t) (k + 1)
 relocations_are t f k j n s e row place count = record {
   entry = ap (λ (r : ElfSectionRow). r.entsize) row;
   whole = rw row (omega arith);

@@ -73,7 +73,7 @@ length-enumerated_past : (x : ℕ × ElfTableSection) (es : List (ℕ × ElfTabl
 length-enumerated_past x es true = omega arith
 length-enumerated_past x es false = omega arith
 
-length-enumerated : (m : ℕ) (ss : List ElfTableSection) → length (filter has_relocations (enumerate_from m ss)) ≡ count_by is_relocated ss
+pub length-enumerated : (m : ℕ) (ss : List ElfTableSection) → length (filter has_relocations (enumerate_from m ss)) ≡ count_by is_relocated ss
 length-enumerated m [] = refl
 length-enumerated m (s ∷ ss) = omega (arith, length-enumerated_past (m, s) (filter has_relocations (enumerate_from (m + 1) ss)) (is_relocated s), length-enumerated (m + 1) ss, sum_by-cons (λ x. cond (is_relocated x) 1 0) s ss)
 
@@ -127,6 +127,17 @@ unfolding parts_of
 part_at_section t k s e =
     get_left (content_parts t ++ middle_parts t) (table_parts t) k (content_part s)
     (get_left (content_parts t) (middle_parts t) k (content_part s) (get_map content_part t.sections k s e))
+
+part_at_middle : (t : ElfTable) (j n : ℕ) (p : Part) → slice_get (middle_parts t) j ≡ Some p → length t.sections + j ≡ n → slice_get (parts_of t) n ≡ Some p
+unfolding parts_of
+part_at_middle t j n p e m =
+    get_left (content_parts t ++ middle_parts t) (table_parts t) n p (get_right (content_parts t) (middle_parts t) j n p e (omega (arith, length-map t.sections content_part, m)))
+
+pub part_at_note : (t : ElfTable) (n : ℕ) → length t.sections ≡ n → slice_get (parts_of t) n ≡ Some note_part
+part_at_note t n m = part_at_middle t 0 n note_part refl (omega (arith, m))
+
+pub part_at_relocations : (t : ElfTable) (j n : ℕ) (p : Part) → slice_get (map (relocation_part t) (filter has_relocations (enumerate_from 1 t.sections))) j ≡ Some p → length t.sections + (1 + j) ≡ n → slice_get (parts_of t) n ≡ Some p
+part_at_relocations t j n p e m = part_at_middle t (suc j) n p e (omega (arith, m))
 
 part_at_table : (t : ElfTable) (j n : ℕ) (p : Part) → slice_get (table_parts t) j ≡ Some p → front_count t + j ≡ n → slice_get (parts_of t) n ≡ Some p
 unfolding parts_of

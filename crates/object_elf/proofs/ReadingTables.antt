@@ -103,7 +103,7 @@ symbol_strings_are : (t : ElfTable) → FitsElf t → IsStrings (elf_file t) (sy
 symbol_strings_are t f =
     strings_row t f (front_count t + 1) (symbol_table_row t + 1) (strings_size (symbol_names t)) (codes ".strtab") (part_at_symbol_strings t (front_count t + 1) refl) (omega arith) (omega (arith, length-parts_of t))
 
-symbol_row_is : (t : ElfTable) → FitsElf t → (k : ℕ) (s : ElfTableSymbol) → slice_get t.symbols k ≡ Some s → symbol_row (elf_file t) (symbol_table_row t) (suc k) ≡ symbol_for t k s
+pub symbol_row_is : (t : ElfTable) → FitsElf t → (k : ℕ) (s : ElfTableSymbol) → slice_get t.symbols k ≡ Some s → symbol_row (elf_file t) (symbol_table_row t) (suc k) ≡ symbol_for t k s
 symbol_row_is t f k s e =
     let place : (section_row (elf_file t) (symbol_table_row t)).offset + 24 * suc k ≡ part_offset (elf_file t) t (symbol_table_row t) + 24 * (k + 1) = omega (arith, table_offset t f) in
     ap (symbol_row_at (elf_file t)) place ∙ symbol_row_here t f k s e
@@ -111,12 +111,13 @@ symbol_row_is t f k s e =
 strings_row_is : (t : ElfTable) → FitsElf t → section_row (elf_file t) (symbol_table_row t + 1) ≡ row_for t (front_count t + 1) (string_part (codes ".strtab") (strings_size (symbol_names t)))
 strings_row_is t f = row_of_part t f (front_count t + 1) (symbol_table_row t + 1) _ (part_at_symbol_strings t (front_count t + 1) refl) (omega arith)
 
-symbol_name_is : (t : ElfTable) → FitsElf t → (k : ℕ) (s : ElfTableSymbol) → slice_get t.symbols k ≡ Some s → symbol_name (elf_file t) (symbol_table_row t) (suc k) ≡ Some s.name
+pub symbol_name_is : (t : ElfTable) → FitsElf t → (k : ℕ) (s : ElfTableSymbol) → slice_get t.symbols k ≡ Some s → symbol_name (elf_file t) (symbol_table_row t) (suc k) ≡ Some s.name
 symbol_name_is t f k s e =
     let told : part_offset (elf_file t) t (symbol_table_row t + 1) ≡ start_of (parts_of t) (front_count t + 1) (string_part (codes ".strtab") (strings_size (symbol_names t))) =
     ap (λ (r : ElfSectionRow). r.offset) (sym (section_row_is t f (symbol_table_row t + 1)) ∙ strings_row_is t f) in
     rw (symbol_row_is t f k s e, table_row_is t f, strings_row_is t f)
-    (name_here (elf_file t) (symbol_names t) (start_of (parts_of t) (front_count t + 1) (string_part (codes ".strtab") (strings_size (symbol_names t)))) k s.name (rw told at (symbol_texts_stand t f)) (get_map (λ (x : ElfTableSymbol). x.name) t.symbols k s e) (f.symbols k s e).name)
+    (name_here (elf_file t) (symbol_names t) (start_of (parts_of t) (front_count t + 1) (string_part (codes ".strtab") (strings_size (symbol_names t)))) k s.name
+    (rw told at (symbol_texts_stand t f)) (get_map (λ (x : ElfTableSymbol). x.name) t.symbols k s e) (f.symbols k s e).name)
 
 abbrev IsPlace : ℕ → ℕ → Type 0
 IsPlace shnum shndx = (shndx < shnum) ⊎ ((0xff00 ≤ shndx) × (shndx ≤ 0xfffe))
