@@ -1,5 +1,5 @@
 -- What a reader of a 64-bit Mach-O file asks of its rows, one after the other, and what it keeps of them.
-use Rattle.std.specs.Prelude.{◌≡◌, ℕ, ◌+◌, ◌*◌, ◌%◌, ◌≤◌, ◌<◌, ◌==◌, ◌||◌, not, if◌then◌else◌, IsTrue, IfSome, List, [], ◌∷◌, length, Option, Some, None, option_map, unwrap_or, find}
+use Rattle.std.specs.Prelude.{◌≡◌, ℕ, ◌+◌, ◌*◌, ◌%◌, ◌≤◌, ◌<◌, ◌==◌, ◌||◌, not, if◌then◌else◌, IsTrue, IfSome, List, [], ◌∷◌, length, Option, option_map, unwrap_or, find}
 use Rattle.std.specs.List.{range_with_len}
 use Rattle.byte_core.specs.Number.{bytes_at}
 use Rattle.image_read.specs.ElfRows.{EachRow}
@@ -53,15 +53,23 @@ pub record IsOnlyBelow (b : List ℕ) (cmd n : ℕ) : Type 0 where
 abbrev pub IsOnly : List ℕ → ℕ → Type 0
 IsOnly b cmd = IsOnlyBelow b cmd (mach_header_of b).ncmds
 
--- a command of this number begins at place p
+-- a command of this number begins at place p, and lies in the file
 pub record IsFound (b : List ℕ) (cmd p : ℕ) : Type 0 where
   pub command : IsCommandAt b p
+  pub inside : p + (command_at b p).cmdsize ≤ length b
   pub number : (command_at b p).cmd ≡ cmd
 
 -- the first command of this number begins there, where there is one
 pub record IsPlaceOf (b : List ℕ) (cmd : ℕ) (place : Option ℕ) : Type 0 where
   pub place_is : place ≡ place_of_command b cmd
   pub found : IfSome place (IsFound b cmd)
+
+-- the first n commands end at p, and at most one has this number, which begins at the place
+pub record IsWalked (b : List ℕ) (cmd n p : ℕ) (place : Option ℕ) : Type 0 where
+  pub at : p ≡ command_place b n
+  pub place_is : place ≡ place_before b cmd n
+  pub found : IfSome place (IsFound b cmd)
+  pub only : IsOnlyBelow b cmd n
 
 -- each command meets its conditions, and none that is read stands twice
 pub record AreSoundCommands (b : List ℕ) : Type 0 where
@@ -89,11 +97,11 @@ pub record SameMachSection (row : SectionNumbers) (r : MachSectionRow) : Type 0 
   pub nreloc : row.nreloc ≡ r.nreloc
   pub flags : row.flags ≡ r.flags
 
--- the headers of the segment's sections stand there
+-- the headers of the sections stand in the command of this segment
 pub record IsSectionTable (b : List ℕ) (t : SectionTable) : Type 0 where
-  pub start : t.start ≡ unwrap_or (place_of_command b 0x19) 0 + 72
+  pub segment : t.segment ≡ unwrap_or (place_of_command b 0x19) 0
   pub count : t.count ≡ section_count b
-  pub inside : 1 ≤ t.count → t.start + 80 * t.count ≤ length b
+  pub inside : 1 ≤ t.count → t.segment + 72 + 80 * t.count ≤ length b
 
 -- section k meets its conditions
 pub record IsSoundMachSection (b : List ℕ) (k : ℕ) : Type 0 where

@@ -11,8 +11,8 @@ use crate::elf::ElfImage;
 use crate::elf::file::ElfFile;
 use crate::elf::relocations::are_relocations;
 use crate::elf::sections::{are_sections, sections_of};
-use crate::elf::symbols::{SymbolTable, symbols_of, table_of};
 use crate::elf::strings::strings_of;
+use crate::elf::symbols::{SymbolTable, symbols_of, table_of};
 use std::alloc::{AllocError, Global};
 
 /// The image of an ELF64 file. It is judged before any memory is taken.

@@ -10,7 +10,7 @@ use crate::elf::ElfSymbol;
 use crate::elf::file::ElfFile;
 use crate::elf::rows::{ENTRY_SIZE, SHT_SYMTAB, SectionRow};
 use crate::elf::strings::strings_of;
-use crate::texts::{has_text, text_or_empty};
+use crate::text::{has_text, text_or_empty};
 use std::alloc::{AllocError, Global};
 
 /// A symbol's row in the table has 32 bits where it is named.

@@ -4,19 +4,16 @@ ghost use Rattle.std.specs.Prelude.{◌≡◌, ◌≤◌, ◌<◌, ◌+◌, ◌*
 ghost use Rattle.image_read.specs.ElfRows.{EachRow};
 ghost use Rattle.image_read.specs.MachFile.{mach_header_of, command_at, commands_end, segment_at};
 ghost use Rattle.image_read.specs.MachImage.{IsCommand};
-ghost use Rattle.image_read.specs.MachRows.{SameCommand, HasRoom, IsCommandAt, IsOnly, IsPlaceOf, AreSoundCommands, AreCommands};
+ghost use Rattle.image_read.specs.MachRows.{HasMachHeader, SameCommand, HasRoom, IsCommandAt, IsOnly, IsPlaceOf, AreSoundCommands, AreCommands};
 
 use crate::mach::file::{HEADER_SIZE, MachFile};
-use crate::mach::rows::{CommandRow, SECTION_SIZE};
+use crate::mach::rows::{CommandRow, SECTION_SIZE, SEGMENT_SIZE};
 
 pub const LC_SEGMENT_64: u32 = 0x19;
 
 pub const LC_SYMTAB: u32 = 2;
 
 pub const LC_BUILD_VERSION: u32 = 0x32;
-
-/// The size of a segment's command before its section headers, in bytes.
-pub const SEGMENT_SIZE: usize = 72;
 
 // The number and the size of a command, in bytes.
 const COMMAND_SIZE: usize = 8;
@@ -35,6 +32,7 @@ pub struct Commands {
 
 /// The commands that are read, None where a command doesn't meet its conditions or one that is read stands twice.
 pub fn commands_of(file: &MachFile<'_>) -> Option<Commands>
+    requires { HasMachHeader file.now }
     ensures found { IfSome result (AreCommands file.now) }
     ensures none { IfNone result (AreSoundCommands file.now → ⊥) }
 {
@@ -53,6 +51,7 @@ pub fn commands_of(file: &MachFile<'_>) -> Option<Commands>
 
 // Whether each command lies among the commands, and has room for what is read of it.
 fn are_commands(file: &MachFile<'_>) -> bool
+    requires { HasMachHeader file.now }
     ensures { IsTrue result ↔ EachRow (IsCommand file.now) 0 (mach_header_of file.now).ncmds }
 {
     let mut at = HEADER_SIZE;
@@ -60,7 +59,7 @@ fn are_commands(file: &MachFile<'_>) -> bool
         if !is_command(file, at) {
             return false;
         }
-        at += file.command(at).cmdsize as usize;
+        at = file.next_command(at);
     }
     true
 }
@@ -103,7 +102,8 @@ fn has_section_room(file: &MachFile<'_>, at: usize, size: usize) -> bool
 
 // Where the only command of this number begins, Some(None) where there is none, and None where there are two.
 fn only_command(file: &MachFile<'_>, cmd: u32) -> Option<Option<usize>>
-    requires { EachRow (IsCommand file.now) 0 (mach_header_of file.now).ncmds }
+    requires header { HasMachHeader file.now }
+    requires commands { EachRow (IsCommand file.now) 0 (mach_header_of file.now).ncmds }
     ensures found { IfSome result (IsPlaceOf file.now cmd) }
     ensures only { IfSome result (λ _. IsOnly file.now cmd) }
     ensures none { IfNone result (IsOnly file.now cmd → ⊥) }
@@ -111,14 +111,13 @@ fn only_command(file: &MachFile<'_>, cmd: u32) -> Option<Option<usize>>
     let mut found = None;
     let mut at = HEADER_SIZE;
     'commands: for _ in 0..file.ncmds() {
-        let command = file.command(at);
-        if command.cmd == cmd {
+        if file.command(at).cmd == cmd {
             if found.is_some() {
                 return None;
             }
             found = Some(at);
         }
-        at += command.cmdsize as usize;
+        at = file.next_command(at);
     }
     Some(found)
 }

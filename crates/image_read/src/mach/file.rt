@@ -1,6 +1,6 @@
 //! A 64-bit Mach-O file whose header stands, and whose load commands lie in it: `mach_header_64`.
 
-ghost use Rattle.std.specs.Prelude.{◌≡◌, ◌≤◌, ◌+◌, ◌↔◌, nat_le, length, IsTrue, IsSome, IfSome};
+ghost use Rattle.std.specs.Prelude.{◌≡◌, ◌≤◌, ◌+◌, ◌*◌, ◌↔◌, nat_le, length, IsTrue, IsSome, IfSome};
 ghost use Rattle.byte_core.specs.Number.{bytes_at};
 ghost use Rattle.byte_core.specs.Strings.{before_zero};
 ghost use Rattle.image_read.specs.MachFile.{mach_header_of, commands_end, command_at, segment_at, symtab_at, mach_section_row_at, mach_symbol_row_at, mach_relocation_row_at};
@@ -9,8 +9,10 @@ ghost use Rattle.image_read.specs.MachRows.{HasMachHeader, SameCommand, SameSymt
 ghost use Rattle.image_read.specs.MachViews.{mach_relocation_of};
 
 use crate::mach::MachReloc64;
-use crate::mach::rows::{CommandRow, SectionNumbers, SymbolNumbers, SymtabRow, relocation_at};
-use crate::texts::before_zero;
+use crate::mach::rows::{
+    CommandRow, SECTION_SIZE, SEGMENT_SIZE, SectionNumbers, SymbolNumbers, SymtabRow, relocation_at,
+};
+use crate::text::before_zero;
 use byte_core::u32_field;
 use std::marker::Model;
 
@@ -21,6 +23,9 @@ pub const HEADER_SIZE: usize = 32;
 const MAGIC: [u8; 4] = [0xcf, 0xfa, 0xed, 0xfe];
 
 const MH_OBJECT: u32 = 1;
+
+// The bytes of a name of a section or a segment.
+const NAME_SIZE: usize = 16;
 
 /// A file whose header stands. A contract sees the bytes of the file.
 #[derive(Debug, Drop)]
@@ -100,6 +105,16 @@ impl<'a> MachFile<'a> {
         CommandRow::at(self.bytes, at)
     }
 
+    /// Where the load command at `at` ends, and the next one begins.
+    pub fn next_command(&self, at: usize) -> usize
+        requires start { at + 8 ≤ length self.now }
+        requires inside { at + (command_at self.now at).cmdsize ≤ length self.now }
+        ensures { result ≡ at + (command_at self.now at).cmdsize }
+    {
+        let bytes = self.bytes;
+        at + CommandRow::at(bytes, at).cmdsize as usize
+    }
+
     /// How many sections the segment at `at` has.
     #[tactic(auto, unfolding(crate::specs::MachFile::segment_at))]
     pub fn nsects(&self, at: usize) -> u32
@@ -131,6 +146,15 @@ impl<'a> MachFile<'a> {
         )
     }
 
+    /// Where header `k` of the segment at `segment` begins.
+    pub fn section_place(&self, segment: usize, k: u32) -> usize
+        requires { segment + 72 + 80 * k ≤ length self.now }
+        ensures { result ≡ segment + 72 + 80 * k }
+    {
+        let bytes = self.bytes;
+        segment + SEGMENT_SIZE + SECTION_SIZE * k as usize
+    }
+
     /// The numbers of the section header at `at`.
     pub fn section_row(&self, at: usize) -> SectionNumbers
         requires { at + 80 ≤ length self.now }
@@ -139,12 +163,23 @@ impl<'a> MachFile<'a> {
         SectionNumbers::at(self.bytes, at)
     }
 
-    /// The name in the 16 bytes at `at`, up to their first zero.
-    pub fn name(&self, at: usize) -> &'a [u8]
-        requires { at + 16 ≤ length self.now }
-        ensures { result.now ≡ before_zero (bytes_at self.now at 16) }
+    /// The name of the section whose header stands at `at`.
+    #[tactic(auto, unfolding(crate::specs::MachFile::mach_section_row_at))]
+    pub fn section_name(&self, at: usize) -> &'a [u8]
+        requires { at + 80 ≤ length self.now }
+        ensures { result.now ≡ before_zero (mach_section_row_at self.now at).name }
     {
-        before_zero(self.range(at, 16))
+        before_zero(self.range(at, NAME_SIZE))
+    }
+
+    /// The name of its segment.
+    #[tactic(auto, unfolding(crate::specs::MachFile::mach_section_row_at, byte_core::specs::Number::bytes_at))]
+    pub fn segment_name(&self, at: usize) -> &'a [u8]
+        requires { at + 80 ≤ length self.now }
+        ensures { result.now ≡ before_zero (mach_section_row_at self.now at).segment }
+    {
+        let bytes = self.bytes;
+        before_zero(&bytes[at + NAME_SIZE..at + 2 * NAME_SIZE])
     }
 
     /// The symbol at `at`.

@@ -64,7 +64,7 @@ impl<'a> MachSection<'a> {
         contents: &'a [u8],
         relocations: Vec<MachReloc64>,
     ) -> MachSection<'a>
-        ensures { result ≡ mach_section_with row segment.now name.now contents.now (map mach_relocation_of relocations.entry.items) }
+        ensures { result ≡ mach_section_with row segment.now name.now contents.now (map mach_relocation_of relocations.items) }
     {
         MachSection {
             row,

@@ -41,7 +41,9 @@ fn parts_of<'a>(file: &MachFile<'a>) -> Option<MachParts<'a>>
     let commands = commands_of(file)?;
     let sections = section_table(file, commands.segment);
     let symbols = symbol_table(file, commands.symtab)?;
-    if !are_sections(file, &sections, symbols.count) || !are_symbols(file, &symbols, sections.count) {
+    if !are_sections(file, &sections, symbols.count)
+        || !are_symbols(file, &symbols, sections.count)
+    {
         return None;
     }
     Some(MachParts {

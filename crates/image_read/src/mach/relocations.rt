@@ -24,7 +24,11 @@ pub fn are_relocations(file: &MachFile<'_>, row: &SectionNumbers, symbols: u32) 
     ensures { IsTrue result ↔ EachRow (IsSoundRecord file.now row.now.reloff) 0 row.now.nreloc }
 {
     for m in 0..row.nreloc {
-        if !is_relocation(file, row.reloff as usize + RELOCATION_SIZE * m as usize, symbols) {
+        if !is_relocation(
+            file,
+            row.reloff as usize + RELOCATION_SIZE * m as usize,
+            symbols,
+        ) {
             return false;
         }
     }

@@ -14,6 +14,9 @@ const S_GB_ZEROFILL: u32 = 0xc;
 
 const S_THREAD_LOCAL_ZEROFILL: u32 = 0x12;
 
+/// The size of a segment's command before its section headers, in bytes.
+pub const SEGMENT_SIZE: usize = 72;
+
 /// The size of a section header in bytes.
 pub const SECTION_SIZE: usize = 80;
 

@@ -1,6 +1,6 @@
 //! Sections: `section_64`.
 
-ghost use Rattle.std.specs.Prelude.{◌≡◌, ◌≤◌, ◌<◌, ◌+◌, ◌*◌, ◌^◌, ◌↔◌, map, length, IsTrue, IfOk};
+ghost use Rattle.std.specs.Prelude.{◌≡◌, ◌≤◌, ◌<◌, ◌+◌, ◌*◌, ◌↔◌, map, length, IsTrue, IfOk};
 ghost use Rattle.std.specs.List.{range_with_len};
 ghost use Rattle.image_read.specs.ElfRows.{EachRow};
 ghost use Rattle.image_read.specs.MachFile.{symtab_of, section_count, mach_section_row};
@@ -8,28 +8,17 @@ ghost use Rattle.image_read.specs.MachImage.{IsMachSection, mach_section_data};
 ghost use Rattle.image_read.specs.MachRows.{IsPlaceOf, IsSectionTable, IsSoundMachSection, IsMachPlaced, SameMachSection, mach_stored_row};
 
 use crate::mach::MachSection;
-use crate::mach::commands::SEGMENT_SIZE;
 use crate::mach::file::MachFile;
 use crate::mach::relocations::{are_relocations, relocations_of};
-use crate::mach::rows::{RELOCATION_SIZE, SECTION_SIZE, SectionNumbers};
+use crate::mach::rows::{RELOCATION_SIZE, SectionNumbers};
 use std::alloc::{AllocError, Global};
 
-/// The section headers of a file, one behind the other.
+/// The section headers of a file, one behind the other in the segment's command.
 #[derive(Clone, Copy, Debug)]
 pub struct SectionTable {
-    /// In bytes from the start of the file.
-    pub start: usize,
+    /// Where the command begins, in bytes from the start of the file.
+    pub segment: usize,
     pub count: u32,
-}
-
-impl SectionTable {
-    // Where section header `k` begins.
-    fn place(&self, k: u32) -> usize
-        requires { self.now.start + 80 * k < 2 ^ 64 }
-        ensures { result ≡ self.now.start + 80 * k }
-    {
-        self.start + SECTION_SIZE * k as usize
-    }
 }
 
 /// The section headers of the segment that begins at this place. Without one there are none.
@@ -39,11 +28,11 @@ pub fn section_table(file: &MachFile<'_>, segment: Option<usize>) -> SectionTabl
 {
     match segment {
         Some(at) => SectionTable {
-            start: at + SEGMENT_SIZE,
+            segment: at,
             count: file.nsects(at),
         },
         None => SectionTable {
-            start: SEGMENT_SIZE,
+            segment: 0,
             count: 0,
         },
     }
@@ -82,7 +71,7 @@ fn section_row(file: &MachFile<'_>, table: &SectionTable, k: u32) -> SectionNumb
     requires row { k < section_count file.now }
     ensures { SameMachSection result (mach_section_row file.now k) }
 {
-    file.section_row(table.place(k))
+    file.section_row(file.section_place(table.segment, k))
 }
 
 // The size of a section's relocations in bytes.
@@ -128,10 +117,10 @@ fn section<'a>(
     requires section { IsMachSection file.now (mach_section_row file.now k) }
     ensures { IfOk result (λ section. section ≡ mach_section_data file.now k) }
 {
-    let at = table.place(k);
+    let at = file.section_place(table.segment, k);
     let row = file.section_row(at);
-    let name = file.name(at);
-    let segment = file.name(at + 16);
+    let name = file.section_name(at);
+    let segment = file.segment_name(at);
     let contents = stored_bytes(file, &row);
     let relocations = relocations_of(alloc, file, &row)?;
     Ok(MachSection::new(row, segment, name, contents, relocations))

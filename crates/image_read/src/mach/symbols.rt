@@ -11,7 +11,7 @@ ghost use Rattle.image_read.specs.MachViews.{mach_symbol_of};
 use crate::mach::MachSymbol;
 use crate::mach::file::MachFile;
 use crate::mach::rows::{SYMBOL_SIZE, SymbolNumbers, SymtabRow};
-use crate::texts::{has_text, text_or_empty};
+use crate::text::{has_text, text_or_empty};
 use std::alloc::{AllocError, Global};
 
 /// The symbols of a file, one behind the other, and the strings with their names.
@@ -25,10 +25,7 @@ pub struct MachSymbolTable<'a> {
 
 /// The symbols that the command at this place tells, None where they or their strings leave the file. Without a command
 /// there are none.
-pub fn symbol_table<'a>(
-    file: &MachFile<'a>,
-    symtab: Option<usize>,
-) -> Option<MachSymbolTable<'a>>
+pub fn symbol_table<'a>(file: &MachFile<'a>, symtab: Option<usize>) -> Option<MachSymbolTable<'a>>
     requires { IsPlaceOf file.now 2 symtab }
     ensures found { IfSome result (IsMachTable file.now) }
     ensures none { IfNone result (AreSymbolsInside file.now → ⊥) }
@@ -80,7 +77,14 @@ fn is_symbol(file: &MachFile<'_>, table: &MachSymbolTable<'_>, k: u32, sections:
     if !has_text(table.strings, row.strx) {
         return false;
     }
-    !lies_in_section(row.n_type) || 1 <= row.sect && u32::from(row.sect) <= sections
+    !lies_in_section(row.n_type) || is_section_number(row.sect, sections)
+}
+
+// Whether it is the number of one of so many sections.
+fn is_section_number(sect: u8, sections: u32) -> bool
+    ensures { IsTrue result ↔ ((1 ≤ sect) × (sect ≤ sections)) }
+{
+    1 <= sect && u32::from(sect) <= sections
 }
 
 fn symbol_row(file: &MachFile<'_>, table: &MachSymbolTable<'_>, k: u32) -> SymbolNumbers
