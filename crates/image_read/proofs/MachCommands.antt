@@ -1,7 +1,7 @@
 -- Load commands, one after the other.
-use Rattle.std.proofs.Common.{◌≡◌, ◌≢◌, ℕ, zero, suc, ◌+◌, ◌<◌, ◌≤◌, ◌==◌, ◌⊎◌, inl, inr, Bool, true, false, cond, List, [], ◌∷◌, ◌++◌, length, Option, Some, None, IsTrue, IfNone, refl, ap, sym, subst, ◌∙◌, arith, find}
+use Rattle.std.proofs.Common.{◌≡◌, ◌≢◌, ℕ, zero, suc, ◌+◌, ◌<◌, ◌≤◌, ◌==◌, ◌⊎◌, inl, inr, Bool, true, false, cond, List, [], ◌∷◌, ◌++◌, length, Option, Some, None, IsTrue, IfNone, refl, ap, sym, subst, ◌∙◌, arith, IsSome, find}
 use Rattle.std.specs.List.{range_with_len}
-use Rattle.std.specs.Option.{option_map, option_or, is_some}
+use Rattle.std.specs.Option.{option_map, option_or}
 use Rattle.std.proofs.lemmas.List.Folds.{find-append}
 use Rattle.image_read.specs.MachFile.{mach_header_of, command_at, command_place, command, commands_end, place_of_command}
 use Rattle.image_read.specs.MachImage.{is_read, IsCommand, IsMach}
@@ -145,7 +145,7 @@ walk_other b cmd n p o w other =
     let here : (command b n).cmd ≢ cmd = subst (λ q. (command_at b q).cmd ≢ cmd) w.at other in
     record { at = next_place b p n w.at; place_is = w.place_is ∙ sym (place_same b cmd n here); found = w.found; only = only_same b cmd n w.only here }
 
-pub walk_first : (b : List ℕ) (cmd n p : ℕ) (o : Option ℕ) → IsWalked b cmd n p o → false ≡ is_some o → IsCommand b n → commands_end b ≤ length b → (command_at b p).cmd ≡ cmd
+pub walk_first : (b : List ℕ) (cmd n p : ℕ) (o : Option ℕ) → IsWalked b cmd n p o → o ≡ None → IsCommand b n → commands_end b ≤ length b → (command_at b p).cmd ≡ cmd
     → IsWalked b cmd (n + 1) (p + (command_at b p).cmdsize) (Some p)
 walk_first b cmd n p (Some q) w some c area number = absurd (cc)
 walk_first b cmd n p None w some c area number =
@@ -158,7 +158,7 @@ walk_first b cmd n p None w some c area number =
       only = only_new b cmd n (sym w.place_is);
     }
 
-pub walk_twice : (b : List ℕ) (cmd n p : ℕ) (o : Option ℕ) → IsWalked b cmd n p o → true ≡ is_some o → (command_at b p).cmd ≡ cmd → n < (mach_header_of b).ncmds → IsOnly b cmd → ⊥
+pub walk_twice : (b : List ℕ) (cmd n p : ℕ) (o : Option ℕ) → IsWalked b cmd n p o → IsSome o → (command_at b p).cmd ≡ cmd → n < (mach_header_of b).ncmds → IsOnly b cmd → ⊥
 walk_twice b cmd n p None w some number below only = absurd (cc)
 walk_twice b cmd n p (Some q) w some number below only =
     let here : (command b n).cmd ≡ cmd = subst (λ r. (command_at b r).cmd ≡ cmd) w.at number in

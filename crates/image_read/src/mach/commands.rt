@@ -1,6 +1,6 @@
 //! Load commands: `load_command`.
 
-ghost use Rattle.std.specs.Prelude.{◌≡◌, ◌≤◌, ◌<◌, ◌+◌, ◌*◌, ◌↔◌, length, IsTrue, IfSome, IfNone};
+ghost use Rattle.std.specs.Prelude.{◌≡◌, ◌≤◌, ◌<◌, ◌+◌, ◌*◌, ◌↔◌, length, None, IsTrue, IsSome, IfSome, IfNone};
 ghost use Rattle.image_read.specs.ElfRows.{EachRow};
 ghost use Rattle.image_read.specs.MachFile.{mach_header_of, command_at, commands_end, segment_at};
 ghost use Rattle.image_read.specs.MachImage.{IsCommand};
@@ -112,12 +112,21 @@ fn only_command(file: &MachFile<'_>, cmd: u32) -> Option<Option<usize>>
     let mut at = HEADER_SIZE;
     'commands: for _ in 0..file.ncmds() {
         if file.command(at).cmd == cmd {
-            if found.is_some() {
-                return None;
-            }
-            found = Some(at);
+            found = Some(first_place(found, at)?);
         }
         at = file.next_command(at);
     }
     Some(found)
+}
+
+// The place of a command, None where one was found before it.
+fn first_place(found: Option<usize>, at: usize) -> Option<usize>
+    ensures first { IfSome result (λ place. place ≡ at) }
+    ensures alone { IfSome result (λ _. found ≡ None) }
+    ensures second { IfNone result (IsSome found) }
+{
+    match found {
+        Some(_) => None,
+        None => Some(at),
+    }
 }
