@@ -30,3 +30,7 @@ next_number n = 44 ∷ compact_text (number_value n)
 
 abbrev pub next_numbers : List ℕ → List ℕ
 next_numbers numbers = flat_map next_number numbers
+
+-- a truth value behind a comma
+abbrev pub next_flag : Bool → List ℕ
+next_flag flag = 44 ∷ compact_text (flag_value flag)

@@ -6,7 +6,7 @@ ghost use Rattle.json_form.specs.Written.{list_value};
 ghost use Rattle.image_read.specs.MachViews.{mach_symbol_of, mach_relocation_of};
 ghost use Rattle.image_json.specs.MachJson.{mach_relocation_value, mach_section_value, mach_symbol_value, mach_text, mach_header_text, mach_numbers_text};
 
-use crate::pieces::{push_comma, push_flag, push_hex, push_number, push_numbers};
+use crate::pieces::{push_comma, push_hex, push_next_flag, push_number, push_numbers};
 use image_read::{MachImage, MachReloc64, MachSection, MachSymbol};
 use std::alloc::{AllocError, Global};
 
@@ -102,11 +102,9 @@ fn push_relocation(out: &mut Vec<u8>, relocation: &MachReloc64) -> Result<(), Al
     out.push(b'[')?;
     push_number(out, u64::from(relocation.address))?;
     push_numbers(out, &[u64::from(relocation.symbolnum)])?;
-    out.push(b',')?;
-    push_flag(out, relocation.pcrel)?;
+    push_next_flag(out, relocation.pcrel)?;
     push_numbers(out, &[u64::from(relocation.length)])?;
-    out.push(b',')?;
-    push_flag(out, relocation.is_extern)?;
+    push_next_flag(out, relocation.is_extern)?;
     push_numbers(out, &[u64::from(relocation.r_type)])?;
     out.push(b']')?;
     Ok(())
