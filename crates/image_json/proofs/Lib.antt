@@ -1,3 +1,4 @@
 pub mod Digits
 pub mod Rows
 pub mod Texts
+pub mod MachTexts

@@ -4,16 +4,17 @@ use Rattle.json.specs.Print.{escape_byte}
 use Rattle.serde_json.specs.Written.{compact_text}
 use Rattle.json_form.specs.Written.{number_value, list_value}
 use Rattle.image_read.specs.ElfImage.{ElfSectionData, ElfImageData}
-use Rattle.image_json.specs.ElfJson.{hex_value, relocation_value, section_value, symbol_value, elf_value, elf_text, header_text, numbers_text, next_number, next_numbers}
+use Rattle.image_json.specs.RowJson.{hex_value, next_number, next_numbers}
+use Rattle.image_json.specs.ElfJson.{relocation_value, section_value, symbol_value, elf_value, elf_text, header_text, numbers_text}
 
-one_number : (n : ℕ) (ns rest : List ℕ) → next_numbers (n ∷ ns) ++ rest ≡ 44 ∷ (compact_text (number_value n) ++ (next_numbers ns ++ rest))
+pub one_number : (n : ℕ) (ns rest : List ℕ) → next_numbers (n ∷ ns) ++ rest ≡ 44 ∷ (compact_text (number_value n) ++ (next_numbers ns ++ rest))
 one_number n ns rest = append_assoc (next_number n) (next_numbers ns) rest
 
-four_numbers : (a b c d : ℕ) (rest : List ℕ) → next_numbers (a ∷ b ∷ c ∷ d ∷ []) ++ rest
+pub four_numbers : (a b c d : ℕ) (rest : List ℕ) → next_numbers (a ∷ b ∷ c ∷ d ∷ []) ++ rest
     ≡ 44 ∷ (compact_text (number_value a) ++ 44 ∷ (compact_text (number_value b) ++ 44 ∷ (compact_text (number_value c) ++ 44 ∷ (compact_text (number_value d) ++ rest))))
 four_numbers a b c d rest = rw (one_number a (b ∷ c ∷ d ∷ []) rest, one_number b (c ∷ d ∷ []) rest, one_number c (d ∷ []) rest, one_number d [] rest) refl
 
-regrouped : (out h x r : List ℕ) → (((((out ++ h) ++ 44 ∷ []) ++ x) ++ 44 ∷ []) ++ r) ++ 93 ∷ [] ≡ out ++ (h ++ 44 ∷ (x ++ 44 ∷ (r ++ 93 ∷ [])))
+pub regrouped : (out h x r : List ℕ) → (((((out ++ h) ++ 44 ∷ []) ++ x) ++ 44 ∷ []) ++ r) ++ 93 ∷ [] ≡ out ++ (h ++ 44 ∷ (x ++ 44 ∷ (r ++ 93 ∷ [])))
 regrouped out h x r = rw (append_assoc, append_assoc, append_assoc, append_assoc, append_assoc) refl
 
 header_before : (s : ElfSectionData) (rest : List ℕ) → header_text s ++ rest

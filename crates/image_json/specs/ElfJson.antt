@@ -1,25 +1,12 @@
 -- What is told of an ELF image as JSON: objects with their keys in the order of their bytes, names and contents in lower-case
 -- hexadecimal, and a row of a table as a list of its numbers.
-use Rattle.std.specs.Prelude.{◌≡◌, ℕ, ℤ, List, [], ◌∷◌, ◌++◌, codes, flat_map}
-use Rattle.hex.specs.Hex.{encode_lower}
-use Rattle.serde_json.specs.Data.{Data, number, string, array, object, no_members, member}
-use Rattle.serde_json.specs.Find.{of_integer}
-use Rattle.serde_json.specs.View.{items_of}
+use Rattle.std.specs.Prelude.{ℕ, List, [], ◌∷◌, ◌++◌, codes}
+use Rattle.serde_json.specs.Data.{Data, string, object, no_members, member}
 use Rattle.serde_json.specs.Written.{compact_text}
 use Rattle.json_form.specs.Written.{number_value, list_value}
 use Rattle.image_read.specs.ElfFile.{ElfRelocationRow}
-use Rattle.image_read.specs.ElfImage.{ElfSectionData, ElfSymbolData, ElfImageData, ElfReads}
-
--- bytes in hexadecimal
-abbrev pub hex_value : List ℕ → Data
-hex_value bytes = string (encode_lower bytes)
-
-abbrev pub integer_value : ℤ → Data
-integer_value z = number (of_integer z)
-
--- a list of these values
-abbrev pub row_value : List Data → Data
-row_value ds = array (items_of ds)
+use Rattle.image_read.specs.ElfImage.{ElfSectionData, ElfSymbolData, ElfImageData}
+use Rattle.image_json.specs.RowJson.{hex_value, integer_value, row_value, next_numbers}
 
 abbrev pub relocation_value : ElfRelocationRow → Data
 relocation_value r = row_value (number_value r.offset ∷ number_value r.symbol ∷ number_value r.r_type ∷ integer_value r.addend ∷ [])
@@ -56,20 +43,7 @@ elf_value i =
 abbrev pub elf_text : ElfImageData → List ℕ
 elf_text i = compact_text (elf_value i)
 
--- the bytes are read as an image, and this is its text
-pub record IsImageText (b text : List ℕ) : Type 0 where
-  pub image : ElfImageData
-  pub reads : ElfReads b image
-  pub text_is : text ≡ elf_text image
-
 -- -- pieces
-
--- a number behind a comma
-abbrev pub next_number : ℕ → List ℕ
-next_number n = 44 ∷ compact_text (number_value n)
-
-abbrev pub next_numbers : List ℕ → List ℕ
-next_numbers numbers = flat_map next_number numbers
 
 -- the start of a section's list: its name and its numbers
 abbrev pub header_text : ElfSectionData → List ℕ

@@ -1,1 +1,4 @@
+pub mod RowJson
 pub mod ElfJson
+pub mod MachJson
+pub mod ImageJson

@@ -1,30 +1,14 @@
 //! An ELF image as JSON: its rows as lists of numbers, names and contents in hexadecimal.
 
-ghost use Rattle.std.specs.Prelude.{◌≡◌, ◌<◌, ◌∷◌, ◌++◌, Bool, OnOk, IfOk, IfErr, map, flat_map};
-ghost use Rattle.serde_json.specs.Written.{compact_text, comma_if};
-ghost use Rattle.json_form.specs.Written.{number_value, list_value};
+ghost use Rattle.std.specs.Prelude.{◌≡◌, ◌++◌, OnOk, IfOk, map};
+ghost use Rattle.serde_json.specs.Written.{compact_text};
+ghost use Rattle.json_form.specs.Written.{list_value};
 ghost use Rattle.image_read.specs.Views.{symbol_of, relocation_of};
-ghost use Rattle.image_read.specs.Image.{ExplainsRead};
-ghost use Rattle.image_json.specs.ElfJson.{relocation_value, section_value, symbol_value, elf_text, next_numbers, IsImageText, header_text, numbers_text};
+ghost use Rattle.image_json.specs.ElfJson.{relocation_value, section_value, symbol_value, elf_text, header_text, numbers_text};
 
-use crate::pieces::{push_hex, push_integer, push_number};
-use image_read::{ElfImage, ElfReloc, ElfSection, ElfSymbol, Image, ReadError, read_image};
+use crate::pieces::{push_comma, push_hex, push_integer, push_number, push_numbers};
+use image_read::{ElfImage, ElfReloc, ElfSection, ElfSymbol};
 use std::alloc::{AllocError, Global};
-
-/// What some bytes are read as, as JSON without white space. NoReading where they are read as no image.
-pub fn image_text(alloc: Global, bytes: &[u8]) -> Result<Vec<u8>, ReadError>
-    ensures ok { IfOk result (λ text. IsImageText bytes.now text.items) }
-    ensures cause { IfErr result (ExplainsRead bytes.now) }
-{
-    match read_image(alloc, bytes) {
-        Ok(Image::Elf(image)) => match elf_text(alloc, &image) {
-            Ok(text) => Ok(text),
-            Err(_) => Err(ReadError::OutOfMemory),
-        },
-        Ok(Image::Mach(_)) | Ok(Image::Fat(_)) => unreachable!(),
-        Err(error) => Err(error),
-    }
-}
 
 /// The image as one JSON object without white space: flags, format, number of local symbols, machine, sections and symbols.
 pub fn elf_text(alloc: Global, image: &ElfImage<'_>) -> Result<Vec<u8>, AllocError>
@@ -155,26 +139,5 @@ fn push_symbol(out: &mut Vec<u8>, symbol: &ElfSymbol<'_>) -> Result<(), AllocErr
         ],
     )?;
     out.push(b']')?;
-    Ok(())
-}
-
-/// Appends numbers, each behind a comma.
-fn push_numbers(out: &mut Vec<u8>, numbers: &[u64]) -> Result<(), AllocError>
-    ensures { OnOk result (out.new.items ≡ out.old.items ++ next_numbers numbers.now) }
-{
-    for number in numbers {
-        out.push(b',')?;
-        push_number(out, *number)?;
-    }
-    Ok(())
-}
-
-/// Appends a comma where something stands before.
-fn push_comma(out: &mut Vec<u8>, is_later: bool) -> Result<(), AllocError>
-    ensures { OnOk result (out.new.items ≡ out.old.items ++ comma_if is_later) }
-{
-    if is_later {
-        out.push(b',')?;
-    }
     Ok(())
 }

@@ -3,6 +3,10 @@
 #![tactic(auto)]
 
 mod elf_json;
+mod mach_json;
 mod pieces;
+mod told;
 
-pub use elf_json::{elf_text, image_text};
+pub use elf_json::elf_text;
+pub use mach_json::mach_text;
+pub use told::image_text;

@@ -1,11 +1,11 @@
-//! Pieces of JSON texts: numbers, and bytes in hexadecimal.
+//! Pieces of JSON texts: numbers, truth values, bytes in hexadecimal, and commas.
 
 ghost use Rattle.std.specs.Prelude.{◌≡◌, ◌<◌, ◌++◌, ◌*◌, length, slice_index, OnOk};
 ghost use Rattle.std.specs.List.{All};
 ghost use Rattle.hex.specs.Hex.{encode_lower, lower_digits};
-ghost use Rattle.serde_json.specs.Written.{compact_text};
+ghost use Rattle.serde_json.specs.Written.{compact_text, comma_if};
 ghost use Rattle.json_form.specs.Written.{number_value};
-ghost use Rattle.image_json.specs.ElfJson.{hex_value, integer_value};
+ghost use Rattle.image_json.specs.RowJson.{hex_value, integer_value, next_flag, next_numbers};
 
 use std::alloc::AllocError;
 
@@ -31,6 +31,17 @@ pub(crate) fn push_integer(out: &mut Vec<u8>, number: i64) -> Result<(), AllocEr
     let mut buffer = itoa::Buffer::new();
     out.extend_from_slice(buffer.format(number).as_bytes())?;
     Ok(())
+}
+
+/// Appends a truth value behind a comma.
+pub(crate) fn push_next_flag(out: &mut Vec<u8>, flag: bool) -> Result<(), AllocError>
+    ensures { OnOk result (out.new.items ≡ out.old.items ++ next_flag flag) }
+{
+    if flag {
+        out.extend_from_slice(b",true")
+    } else {
+        out.extend_from_slice(b",false")
+    }
 }
 
 /// Appends bytes as a text of two lower-case hexadecimal digits each.
@@ -80,4 +91,25 @@ fn digit(number: u8) -> u8
     } else {
         number + (b'a' - 10)
     }
+}
+
+/// Appends numbers, each behind a comma.
+pub(crate) fn push_numbers(out: &mut Vec<u8>, numbers: &[u64]) -> Result<(), AllocError>
+    ensures { OnOk result (out.new.items ≡ out.old.items ++ next_numbers numbers.now) }
+{
+    for number in numbers {
+        out.push(b',')?;
+        push_number(out, *number)?;
+    }
+    Ok(())
+}
+
+/// Appends a comma where something stands before.
+pub(crate) fn push_comma(out: &mut Vec<u8>, is_later: bool) -> Result<(), AllocError>
+    ensures { OnOk result (out.new.items ≡ out.old.items ++ comma_if is_later) }
+{
+    if is_later {
+        out.push(b',')?;
+    }
+    Ok(())
 }

@@ -3,7 +3,7 @@ use Rattle.std.proofs.Common.{◌≡◌, ◌≢◌, ℕ, suc, ◌+◌, ◌-◌, 
 use Rattle.std.specs.List.{range_with_len, flat_map}
 use Rattle.byte_core.specs.Number.{text_at}
 use Rattle.image_read.specs.ElfFile.{header_of, row_numbers, symbol_table, section_row, symbol_row_at, ElfRelocationRow}
-use Rattle.image_read.specs.ElfImage.{elf_image_of, ElfImageData, symbols_in, IsElf, IsSection, ElfSymbolData, ElfSectionData, symbol_data, section_data, records_for}
+use Rattle.image_read.specs.ElfImage.{elf_image_of, symbols_in, IsElf, IsSection, ElfSymbolData, ElfSectionData, symbol_data, section_data, records_for}
 use Rattle.image_read.specs.ElfRows.{image_with, EachRow, HasHeader, HasStrings, HoldsStrings, SameSection, SameSymbol, IsOpen, IsTableOf, IsTheTable, IsSoundTable, AreSoundRelocations, stored_row, bare_section, section_before, with_records, records_of}
 use Rattle.image_read.specs.declared.elf.rows.SectionRow.{SectionRow}
 use Rattle.image_read.specs.declared.elf.rows.SymbolRow.{SymbolRow}

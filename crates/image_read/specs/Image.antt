@@ -1,15 +1,16 @@
 -- What a file is read as, whatever its format, and why it isn't read.
 use Rattle.std.specs.Prelude.{List, ℕ}
 use Rattle.image_read.specs.ElfImage.{ElfReads}
+use Rattle.image_read.specs.MachImage.{MachReads}
 use Rattle.image_read.specs.declared.image.Image.{Image}
 use Rattle.image_read.specs.declared.image.Image.TheVariants.{Elf, Mach, Fat}
 use Rattle.image_read.specs.declared.error.ReadError.{ReadError}
 use Rattle.image_read.specs.declared.error.ReadError.TheVariants.{NoReading, OutOfMemory}
 
--- the file is read as this image; no Mach-O file and no fat file is read yet
+-- the file is read as this image; no fat file is read yet
 abbrev pub Reads : List ℕ → Image → Type 0
 Reads b (Elf image) = ElfReads b image
-Reads b (Mach image) = ⊥
+Reads b (Mach image) = MachReads b image
 Reads b (Fat image) = ⊥
 
 -- a format reads the file

@@ -2,7 +2,7 @@
 use Rattle.std.specs.Prelude.{map}
 use Rattle.image_read.specs.MachImage.{MachImageData}
 use Rattle.image_read.specs.MachViews.{mach_symbol_of}
-use Rattle.image_read.specs.declared.mach.MachImage.TheInside.{Inside}
+use Rattle.image_read.specs.declared.mach.image.MachImage.TheInside.{Inside}
 
 abbrev pub mach_image_view : Inside → MachImageData
 mach_image_view i =

@@ -1,7 +1,8 @@
 -- What the definitions see of the rows of a Mach-O image.
-use Rattle.image_read.specs.MachImage.{MachRelocationRow, MachSymbolData}
-use Rattle.image_read.specs.declared.mach.MachReloc64.{MachReloc64}
-use Rattle.image_read.specs.declared.mach.MachSymbol.{MachSymbol}
+use Rattle.image_read.specs.MachFile.{MachRelocationRow}
+use Rattle.image_read.specs.MachImage.{MachSymbolData}
+use Rattle.image_read.specs.declared.mach.image.MachReloc64.{MachReloc64}
+use Rattle.image_read.specs.declared.mach.image.MachSymbol.{MachSymbol}
 
 abbrev pub mach_relocation_of : MachReloc64 → MachRelocationRow
 mach_relocation_of r = record { address = r.address; symbolnum = r.symbolnum; pcrel = r.pcrel; length = r.length; is_extern = r.is_extern; r_type = r.r_type }

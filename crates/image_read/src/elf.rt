@@ -6,8 +6,8 @@ mod read;
 mod relocations;
 mod rows;
 mod sections;
+mod strings;
 mod symbols;
-mod texts;
 
 pub use image::{ElfImage, ElfReloc, ElfSection, ElfSymbol};
 pub use read::read_elf;

@@ -1,13 +1,13 @@
 //! What a file is read as, whatever its format.
 
 ghost use Rattle.std.specs.Prelude.{◌≡◌, ℕ, List, IfOk, IfErr};
-ghost use Rattle.image_read.specs.ElfImage.{ElfImageData, ElfReads};
 ghost use Rattle.image_read.specs.Image.{Reads, ExplainsRead};
+ghost use Rattle.image_read.specs.declared.image.Image.{Image};
 
 use crate::ReadError;
 use crate::elf::{ElfImage, read_elf};
 use crate::fat::FatImage;
-use crate::mach::MachImage;
+use crate::mach::{MachImage, read_mach};
 use std::alloc::Global;
 
 /// What a file holds. Names and contents are borrowed from the bytes of the file.
@@ -21,18 +21,23 @@ pub enum Image<'a> {
     Fat(FatImage<'a>),
 }
 
-/// The image that the bytes of a file have. NoReading where no format reads them; Mach-O and fat files aren't read yet.
+/// The image that the bytes of a file have. NoReading where no format reads them; fat files aren't read yet.
+#[tactic(auto, using(crate::proofs::Laws::no_image, crate::proofs::Laws::elf_has_image, crate::proofs::Laws::mach_has_image))]
 pub fn read_image<'a>(alloc: Global, bytes: &'a [u8]) -> Result<Image<'a>, ReadError>
     ensures ok { IfOk result (Reads bytes.now) }
     ensures cause { IfErr result (ExplainsRead bytes.now) }
 {
     match read_elf(alloc, bytes) {
         Ok(image) => Ok(Image::Elf(image)),
-        Err(error) => Err(error),
+        Err(ReadError::OutOfMemory) => Err(ReadError::OutOfMemory),
+        Err(ReadError::NoReading) => match read_mach(alloc, bytes) {
+            Ok(image) => Ok(Image::Mach(image)),
+            Err(error) => Err(error),
+        },
     }
 }
 
-/// A file has one image at most.
+/// A file has one image at most, whatever its format.
 pub fn one_image()
-    ensures { (b : List ℕ) (i j : ElfImageData) → ElfReads b i → ElfReads b j → i ≡ j }
+    ensures { (b : List ℕ) (i j : Image) → Reads b i → Reads b j → i ≡ j }
 {}

@@ -4,4 +4,8 @@
 #[cfg(test)]
 mod elf_tests;
 #[cfg(test)]
+mod mach_tests;
+#[cfg(test)]
 mod small_files;
+#[cfg(test)]
+mod small_mach_files;

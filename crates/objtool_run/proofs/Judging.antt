@@ -6,7 +6,6 @@ use Rattle.image_build.specs.Parts.{built_so_far}
 use Rattle.objtool_run.specs.Fault.{code_of}
 use Rattle.objtool_run.specs.Script.{HasJson, HasNoParts, HasOtherParts, StandsFor}
 use Rattle.image_read.specs.Image.{HasNoImage}
-use Rattle.image_read.specs.declared.image.Image.TheVariants.{Elf}
 use Rattle.objtool_run.specs.Reading.{IsImage, IsImageLine, IsUnreadImage, JudgesRead}
 use Rattle.objtool_run.specs.Run.{IsOutput, IsLong, Explains, Judges, JudgesBuild, IsAnswerable, IsJudged}
 use Rattle.objtool_run.specs.declared.words.Request.{Request}
@@ -103,10 +102,10 @@ judges_unread_query q input none = record {
 -- -- images
 
 judges_image : (input : List ℕ) (status : ℕ) → IsImage input → (status ≡ 0) ⊎ (status ≡ 4) → JudgesRead input status
-judges_image input status image ends = record { unread = λ none. absurd (none.none (Elf image.image) image.reads); read = λ also. ends }
+judges_image input status image ends = record { unread = λ none. absurd (none.none image.image image.reads); read = λ also. ends }
 
 judges_no_image : (input : List ℕ) → HasNoImage input → JudgesRead input 1
-judges_no_image input none = record { unread = λ h. refl; read = λ image. absurd (none.none (Elf image.image) image.reads) }
+judges_no_image input none = record { unread = λ h. refl; read = λ image. absurd (none.none image.image image.reads) }
 
 if_known : (P Q : List ℕ → Type 0) → ((input : List ℕ) → P input → Q input) → (o : Option (List ℕ)) → IfSome o P → IfSome o Q
 if_known P Q f None h = tt

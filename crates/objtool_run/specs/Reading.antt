@@ -1,22 +1,22 @@
 -- What a file's bytes are read as.
 use Rattle.std.specs.Prelude.{◌≡◌, ℕ, ◌⊎◌, List, codes, string_bytes}
-use Rattle.image_read.specs.ElfImage.{ElfImageData, ElfReads}
-use Rattle.image_read.specs.Image.{HasNoImage}
-use Rattle.image_json.specs.ElfJson.{elf_text}
+use Rattle.image_read.specs.Image.{Reads, HasNoImage}
+use Rattle.image_read.specs.declared.image.Image.{Image}
+use Rattle.image_json.specs.ImageJson.{image_text}
 use Rattle.objtool_run.specs.Fault.{line}
 use Rattle.objtool_run.specs.declared.fault.Fault.{Fault}
 use Rattle.objtool_run.specs.declared.fault.Fault.TheVariants.{Refused, BadWords, ReadFailed, WriteFailed, OutOfMemory, NotUnderstood, TooLong, NotYet}
 
 -- the bytes are read as an image
 pub record IsImage (input : List ℕ) : Type 0 where
-  pub image : ElfImageData
-  pub reads : ElfReads input image
+  pub image : Image
+  pub reads : Reads input image
 
 -- the text is the line of the image that the bytes are read as
 pub record IsImageLine (input text : List ℕ) : Type 0 where
-  pub image : ElfImageData
-  pub reads : ElfReads input image
-  pub text_is : text ≡ line (elf_text image)
+  pub image : Image
+  pub reads : Reads input image
+  pub text_is : text ≡ line (image_text image)
 
 -- what is told of bytes that are read as no image
 abbrev pub no_image_text : List ℕ

@@ -4,22 +4,21 @@ ghost use Rattle.std.specs.Prelude.{◌≡◌, IfOk, IfErr, IfSome, IfNone, Some
 ghost use Rattle.image_read.specs.ElfFile.{header_of};
 ghost use Rattle.image_read.specs.ElfImage.{IsElf, ElfReads, elf_image_of};
 ghost use Rattle.image_read.specs.ElfRows.{HoldsStrings, IsTableOf, HasHeader};
-ghost use Rattle.image_read.specs.Image.{ExplainsRead};
+ghost use Rattle.image_read.specs.Explains.{ExplainsBy};
 
 use crate::ReadError;
 use crate::elf::ElfImage;
 use crate::elf::file::ElfFile;
 use crate::elf::relocations::are_relocations;
 use crate::elf::sections::{are_sections, sections_of};
+use crate::elf::strings::strings_of;
 use crate::elf::symbols::{SymbolTable, symbols_of, table_of};
-use crate::elf::texts::strings_of;
 use std::alloc::{AllocError, Global};
 
 /// The image of an ELF64 file. It is judged before any memory is taken.
-#[tactic(auto, using(crate::proofs::Laws::no_image, crate::proofs::Laws::elf_has_image))]
 pub fn read_elf<'a>(alloc: Global, bytes: &'a [u8]) -> Result<ElfImage<'a>, ReadError>
     ensures ok { IfOk result (ElfReads bytes.now) }
-    ensures cause { IfErr result (ExplainsRead bytes.now) }
+    ensures cause { IfErr result (ExplainsBy (IsElf bytes.now)) }
 {
     let file = ElfFile::new(bytes).ok_or(ReadError::NoReading)?;
     let parts = parts_of(&file).ok_or(ReadError::NoReading)?;

@@ -8,7 +8,7 @@ ghost use Rattle.image_read.specs.ElfRows.{EachRow, HoldsStrings, IsPlaced, sect
 use crate::elf::ElfSection;
 use crate::elf::file::ElfFile;
 use crate::elf::rows::{SHT_REL, SHT_RELA, SectionRow};
-use crate::elf::texts::{has_text, text_or_empty};
+use crate::text::{has_text, text_or_empty};
 use std::alloc::{AllocError, Global};
 
 /// Whether each section lies in the file, has a name among these, and is no relocation section without addends.

@@ -9,7 +9,8 @@ ghost use Rattle.image_read.specs.Views.{symbol_of};
 use crate::elf::ElfSymbol;
 use crate::elf::file::ElfFile;
 use crate::elf::rows::{ENTRY_SIZE, SHT_SYMTAB, SectionRow};
-use crate::elf::texts::{has_text, strings_of, text_or_empty};
+use crate::elf::strings::strings_of;
+use crate::text::{has_text, text_or_empty};
 use std::alloc::{AllocError, Global};
 
 /// A symbol's row in the table has 32 bits where it is named.

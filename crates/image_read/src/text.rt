@@ -1,13 +1,11 @@
-//! Texts of a string section: System V gABI, "String Table".
+//! Texts that end with a zero byte.
 
-ghost use Rattle.std.specs.Prelude.{◌≡◌, ◌<◌, ◌==◌, ◌↔◌, [], length, unwrap_or, IsTrue, IsSome, IfSome, IfNone};
+ghost use Rattle.std.specs.Prelude.{◌≡◌, ◌<◌, ◌==◌, ◌↔◌, [], length, unwrap_or, IsTrue, IsSome, IfSome};
 ghost use Rattle.std.specs.List.{position_from};
 ghost use Rattle.std.specs.Option.{option_map};
 ghost use Rattle.byte_core.specs.Number.{text_at};
-ghost use Rattle.image_read.specs.ElfRows.{HasStrings, HoldsStrings};
+ghost use Rattle.byte_core.specs.Strings.{before_zero};
 
-use crate::elf::file::ElfFile;
-use crate::elf::rows::SHT_STRTAB;
 use memchr::memchr;
 
 /// The text from `at` up to the first zero byte, None where there is none.
@@ -43,25 +41,20 @@ pub fn text_or_empty(strings: &[u8], at: u32) -> &[u8]
     }
 }
 
+/// The bytes up to the first zero, or all of them.
+pub fn before_zero(bytes: &[u8]) -> &[u8]
+    ensures { result.now ≡ before_zero bytes.now }
+{
+    match first_zero(bytes) {
+        Some(end) => &bytes[..end],
+        None => bytes,
+    }
+}
+
 #[tactic(auto, using(crate::proofs::FirstZero::first_zero))]
 fn first_zero(bytes: &[u8]) -> Option<usize>
     ensures first { result ≡ position_from (λ x. x == 0) 0 bytes.now }
     ensures inside { IfSome result (λ n. n < length bytes.now) }
 {
     memchr(0, bytes)
-}
-
-/// The bytes of string section `k`, None where it isn't one or leaves the file.
-pub fn strings_of<'a>(file: &ElfFile<'a>, k: usize) -> Option<&'a [u8]>
-    ensures found { IfSome result (λ strings. HoldsStrings file.now k strings.now) }
-    ensures none { IfNone result (HasStrings file.now k → ⊥) }
-{
-    if k == 0 || k >= file.count() {
-        return None;
-    }
-    let row = file.section_row(k);
-    if row.sh_type != SHT_STRTAB || !file.has_inside(&row) {
-        return None;
-    }
-    Some(file.range(row.offset, row.size))
 }
