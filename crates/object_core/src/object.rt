@@ -131,6 +131,15 @@ impl Object {
         &self.sections
     }
 
+    /// The section of this number.
+    pub fn section(&self, id: SectionId) -> &Section
+        requires { id < length (self.now).sections }
+        ensures { option_map body_of (slice_get (self.now).sections id) ≡ Some result.now }
+    {
+        let sections = self.sections();
+        &sections[id.as_number()]
+    }
+
     /// The symbols in order of creation.
     pub fn symbols(&self) -> &[Symbol]
         ensures value { result.now ≡ map plain_symbol (self.now).symbols }
