@@ -10,7 +10,7 @@ ghost use Rattle.std.specs.List.{position_or_len, position_from};
 ghost use Rattle.cranelift_object.specs.Part.{start_cause, is_mach_o};
 
 use cranelift_module::{BackendCause, LibcallNames, ModuleError, ModuleResult, check_no_zero_byte};
-use ir_core::{Architecture, BinaryFormat, LibCall, TargetIsa};
+use ir_core::{LibCall, TargetIsa};
 use object_core::is_supported;
 use std::alloc::Global;
 use std::marker::Model;
@@ -119,36 +119,6 @@ impl ObjectBuilder {
     }
 
     // The first place of a text in the table of library calls, or else their number.
-    pub(crate) fn place_of_text(&self, text: &str) -> usize
-        ensures { result ≡ position_or_len (bytes_eq text.now) ((self.now).settings).library_names }
-    {
-        place_of(text, self.libcall_names.texts())
-    }
-
-    // The text at a place of the table of library calls, none past its end.
-    pub(crate) fn text_at(&self, place: usize) -> &str
-        ensures { result.now ≡ text_of (self.now).settings place }
-    {
-        match self.libcall_names.texts().get(place) {
-            Some(text) => text.as_str(),
-            None => "",
-        }
-    }
-
-    pub(crate) fn function_sections(&self) -> bool
-        ensures { result ≡ ((self.now).settings).function_sections }
-    {
-        self.function_sections
-    }
-
-    pub(crate) fn data_sections(&self) -> bool
-        ensures { result ≡ ((self.now).settings).data_sections }
-    {
-        self.data_sections
-    }
-}
-
-// The first place of a text in the table of library calls, or else their number.
     pub(crate) fn place_of_text(&self, text: &str) -> usize
         ensures { result ≡ position_or_len (bytes_eq text.now) ((self.now).settings).library_names }
     {
