@@ -1,10 +1,15 @@
 -- The kinds of relocations, each by its place in the list of all.
 use Rattle.std.proofs.Common.{◌≡◌, ℕ, List, [], ◌∷◌, slice_get, Some, refl}
 use Rattle.ir_core.specs.declared.reloc.Reloc.{Reloc}
-use Rattle.ir_core.specs.declared.reloc.Reloc.TheVariants.{Abs4, Abs8, X86PCRel4, X86CallPCRel4, X86CallPLTRel4, X86GOTPCRel4, X86SecRel, Arm64Call, S390xPCRel32Dbl, S390xPLTRel32Dbl, ElfX86_64TlsGd, MachOX86_64Tlv, MachOAarch64TlsAdrPage21, MachOAarch64TlsAdrPageOff12, Aarch64TlsDescAdrPage21, Aarch64TlsDescLd64Lo12, Aarch64TlsDescAddLo12, Aarch64TlsDescCall, Aarch64AdrGotPage21, Aarch64Ld64GotLo12Nc, Aarch64AdrPrelPgHi21, Aarch64AddAbsLo12Nc, RiscvCallPlt, RiscvTlsGdHi20, RiscvPCRelLo12I, RiscvGotHi20, RiscvPCRelHi20, S390xTlsGd64, S390xTlsGdCall}
+use Rattle.ir_core.specs.declared.reloc.Reloc.TheVariants.{Abs4, Abs8, X86PCRel4, X86CallPCRel4, X86CallPLTRel4, X86GOTPCRel4, X86SecRel, Arm64Call, S390xPCRel32Dbl, S390xPLTRel32Dbl}
+use Rattle.ir_core.specs.declared.reloc.Reloc.TheVariants.{ElfX86_64TlsGd, MachOX86_64Tlv, MachOAarch64TlsAdrPage21, MachOAarch64TlsAdrPageOff12, Aarch64TlsDescAdrPage21, Aarch64TlsDescLd64Lo12, Aarch64TlsDescAddLo12, Aarch64TlsDescCall, Aarch64AdrGotPage21, Aarch64Ld64GotLo12Nc}
+use Rattle.ir_core.specs.declared.reloc.Reloc.TheVariants.{Aarch64AdrPrelPgHi21, Aarch64AddAbsLo12Nc, RiscvCallPlt, RiscvTlsGdHi20, RiscvPCRelLo12I, RiscvGotHi20, RiscvPCRelHi20, S390xTlsGd64, S390xTlsGdCall}
 
 abbrev pub all_kinds : List Reloc
-all_kinds = Abs4 ∷ Abs8 ∷ X86PCRel4 ∷ X86CallPCRel4 ∷ X86CallPLTRel4 ∷ X86GOTPCRel4 ∷ X86SecRel ∷ Arm64Call ∷ S390xPCRel32Dbl ∷ S390xPLTRel32Dbl ∷ ElfX86_64TlsGd ∷ MachOX86_64Tlv ∷ MachOAarch64TlsAdrPage21 ∷ MachOAarch64TlsAdrPageOff12 ∷ Aarch64TlsDescAdrPage21 ∷ Aarch64TlsDescLd64Lo12 ∷ Aarch64TlsDescAddLo12 ∷ Aarch64TlsDescCall ∷ Aarch64AdrGotPage21 ∷ Aarch64Ld64GotLo12Nc ∷ Aarch64AdrPrelPgHi21 ∷ Aarch64AddAbsLo12Nc ∷ RiscvCallPlt ∷ RiscvTlsGdHi20 ∷ RiscvPCRelLo12I ∷ RiscvGotHi20 ∷ RiscvPCRelHi20 ∷ S390xTlsGd64 ∷ S390xTlsGdCall ∷ []
+all_kinds =
+    Abs4 ∷ Abs8 ∷ X86PCRel4 ∷ X86CallPCRel4 ∷ X86CallPLTRel4 ∷ X86GOTPCRel4 ∷ X86SecRel ∷ Arm64Call ∷ S390xPCRel32Dbl ∷ S390xPLTRel32Dbl
+    ∷ ElfX86_64TlsGd ∷ MachOX86_64Tlv ∷ MachOAarch64TlsAdrPage21 ∷ MachOAarch64TlsAdrPageOff12 ∷ Aarch64TlsDescAdrPage21 ∷ Aarch64TlsDescLd64Lo12 ∷ Aarch64TlsDescAddLo12 ∷ Aarch64TlsDescCall ∷ Aarch64AdrGotPage21 ∷ Aarch64Ld64GotLo12Nc
+    ∷ Aarch64AdrPrelPgHi21 ∷ Aarch64AddAbsLo12Nc ∷ RiscvCallPlt ∷ RiscvTlsGdHi20 ∷ RiscvPCRelLo12I ∷ RiscvGotHi20 ∷ RiscvPCRelHi20 ∷ S390xTlsGd64 ∷ S390xTlsGdCall ∷ []
 
 -- what holds of each kind of the list holds of every kind
 pub every_kind : (P : Reloc → Type 0) → ((k : ℕ) (kind : Reloc) → slice_get all_kinds k ≡ Some kind → P kind) → (kind : Reloc) → P kind
