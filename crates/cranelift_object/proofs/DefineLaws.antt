@@ -329,7 +329,7 @@ adding o number d below at = slice_get-get_or o.state.definitions number d below
 pub later_is : (o : OpenModule) (marks : Marks) (j : ℕ) (d : Definition) (object later : ObjectData) → IsModule o marks → slice_get o.state.definitions j ≡ Some d → object ≡ partial o.settings o.state (take j o.state.definitions) → later ≡ with_class object (section_class o.settings o.state d)
     → later ≡ opened o.settings o.state (take j o.state.definitions) d
 later_is o marks j d object later h at e f =
-    f ∙ ap (λ (x : ObjectData). with_class x (section_class o.settings o.state d)) e ∙ sym (opened_class o.settings o.state (take j o.state.definitions) d (body_shareable o d (body_at o marks j d h at)))
+    f ∙ ap (λ (x : ObjectData). with_class x (section_class o.settings o.state d)) e ∙ sym (opened_class o.settings o.state (take j o.state.definitions) d h.begun.format (body_shareable o d (body_at o marks j d h at)))
 
 pub section_is : (o : OpenModule) (j : ℕ) (d : Definition) (object : ObjectData) (section : ℕ) → object ≡ partial o.settings o.state (take j o.state.definitions) → section ≡ class_place object (section_class o.settings o.state d) → section ≡ number_behind o.settings o.state (take j o.state.definitions) d
 section_is o j d object section e f = f ∙ ap (λ (x : ObjectData). class_place x (section_class o.settings o.state d)) e ∙ number_class o.settings o.state (take j o.state.definitions) d

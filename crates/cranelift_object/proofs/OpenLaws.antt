@@ -6,9 +6,11 @@ use Rattle.std.proofs.lemmas.List.Elements.{All-weaker}
 use Rattle.std.specs.Prelude.{unwrap_or}
 use Rattle.std.specs.List.{list_any, position_from, position_or_len}
 use Rattle.object_core.specs.declared.kinds.StandardSection.{StandardSection}
+use Rattle.ir_core.specs.declared.target.BinaryFormat.{BinaryFormat}
+use Rattle.ir_core.specs.declared.target.BinaryFormat.TheVariants.{Elf}
 use Rattle.object_core.specs.Object.{SectionData, ObjectData}
 use Rattle.object_core.specs.Places.{end_of, joined}
-use Rattle.object_core.specs.Standard.{standard_name, is_same_shared, empty_standard}
+use Rattle.object_core.specs.Standard.{standard_name, is_same_shared, empty_standard, empty_standard_in}
 use Rattle.object_core.specs.Appending.{standard_at, with_standard, with_standard_section, with_retain, retained}
 use Rattle.cranelift_module.specs.Definitions.{Definition}
 use Rattle.cranelift_module.specs.LinkState.{LinkState}
@@ -132,8 +134,16 @@ standard_of settings s ds standard = shared_from settings s standard 0 0 (sectio
 any_standard : (settings : Settings) (s : LinkState) (ds : List Definition) (class : Class) (standard : StandardSection) → class.shared ≡ Some standard → list_any (λ (c : Class). is_same_shared (Some standard) c.shared) (sections_used (map (section_class settings s) ds)) ≡ list_any (share class) (map (section_class settings s) ds)
 any_standard settings s ds class standard e = ap (λ (shared : Option StandardSection). list_any (λ (c : Class). is_same_shared shared c.shared) (sections_used (map (section_class settings s) ds))) (sym e) ∙ any_used class (map (section_class settings s) ds)
 
-opened_shared : (settings : Settings) (s : LinkState) (ds : List Definition) (d : Definition) (standard : StandardSection) → IsShareable (section_class settings s d) → (section_class settings s d).shared ≡ Some standard → opened settings s ds d ≡ with_standard_section (partial settings s ds) standard
-opened_shared settings s ds d standard here e =
+empty_elf : (format : BinaryFormat) (standard : StandardSection) → format ≡ Elf → empty_standard standard ≡ empty_standard_in format standard
+empty_elf format standard e = rw e refl
+
+partial_format : (settings : Settings) (s : LinkState) (ds : List Definition) → (partial settings s ds).format ≡ s.target.triple.binary_format
+unfolding partial
+partial_format settings s ds = refl
+
+opened_shared : (settings : Settings) (s : LinkState) (ds : List Definition) (d : Definition) (standard : StandardSection) → s.target.triple.binary_format ≡ Elf → IsShareable (section_class settings s d) → (section_class settings s d).shared ≡ Some standard → opened settings s ds d ≡ with_standard_section (partial settings s ds) standard
+opened_shared settings s ds d standard format here e =
+    let empty = plain_empty standard ∙ empty_elf (partial settings s ds).format standard (partial_format settings s ds ∙ format) in
     let class : Class = section_class settings s d in
     let any = any_standard settings s ds class standard e in
     let test : Class → Bool = λ c. is_same_shared (Some standard) c.shared in
@@ -142,20 +152,20 @@ opened_shared settings s ds d standard here e =
       | inl known ↦ (let found = found_some test 0 used (any ∙ known) in
           opened_known settings s ds d known ∙ ap (with_standard (partial settings s ds) standard) (sym (standard_of settings s ds standard ∙ found.1)))
       | inr new ↦ (let found = found_none test 0 used (any ∙ new) in
-          opened_new settings s ds d (empty_standard standard) new (section_empty settings s class ∙ ap empty_class (here standard e) ∙ plain_empty standard) ∙ ap (with_standard (partial settings s ds) standard) (sym (standard_of settings s ds standard ∙ found)))
+          opened_new settings s ds d (empty_standard_in (partial settings s ds).format standard) new (section_empty settings s class ∙ ap empty_class (here standard e) ∙ empty) ∙ ap (with_standard (partial settings s ds) standard) (sym (standard_of settings s ds standard ∙ found)))
     ]
 
 -- -- by what an object offers
 
-opened_by : (settings : Settings) (s : LinkState) (ds : List Definition) (d : Definition) (shared : Option StandardSection) → IsShareable (section_class settings s d) → (section_class settings s d).shared ≡ shared
-    → opened settings s ds d ≡ with_shared_class (partial settings s ds) (section_class settings s d) shared
-opened_by settings s ds d None here e =
+opened_by : (settings : Settings) (s : LinkState) (ds : List Definition) (d : Definition) (shared : Option StandardSection) → s.target.triple.binary_format ≡ Elf → IsShareable (section_class settings s d)
+    → (section_class settings s d).shared ≡ shared → opened settings s ds d ≡ with_shared_class (partial settings s ds) (section_class settings s d) shared
+opened_by settings s ds d None format here e =
     opened_new settings s ds d (empty_class (section_class settings s d)) (none_shares (section_class settings s d) (map (section_class settings s) ds) e) (section_empty settings s (section_class settings s d))
-opened_by settings s ds d (Some standard) here e = opened_shared settings s ds d standard here e
+opened_by settings s ds d (Some standard) format here e = opened_shared settings s ds d standard format here e
 
 -- the section of one more definition is that of its class
-pub opened_class : (settings : Settings) (s : LinkState) (ds : List Definition) (d : Definition) → IsShareable (section_class settings s d) → opened settings s ds d ≡ with_class (partial settings s ds) (section_class settings s d)
-opened_class settings s ds d here = opened_by settings s ds d (section_class settings s d).shared here refl
+pub opened_class : (settings : Settings) (s : LinkState) (ds : List Definition) (d : Definition) → s.target.triple.binary_format ≡ Elf → IsShareable (section_class settings s d) → opened settings s ds d ≡ with_class (partial settings s ds) (section_class settings s d)
+opened_class settings s ds d format here = opened_by settings s ds d (section_class settings s d).shared format here refl
 
 number_by : (settings : Settings) (s : LinkState) (ds : List Definition) (d : Definition) (shared : Option StandardSection) → (section_class settings s d).shared ≡ shared → shared_place (partial settings s ds) shared ≡ number_behind settings s ds d
 unfolding partial

@@ -7,10 +7,11 @@ ghost use Rattle.cranelift_object.specs.Kept.{IsBegun};
 ghost use Rattle.cranelift_object.specs.Extras.{text_of};
 ghost use Rattle.cranelift_module.specs.LibraryNames.{library_place};
 ghost use Rattle.std.specs.List.{position_or_len, position_from};
-ghost use Rattle.cranelift_object.specs.Part.{start_cause, is_supported, is_mach_o};
+ghost use Rattle.cranelift_object.specs.Part.{start_cause, is_mach_o};
 
 use cranelift_module::{BackendCause, LibcallNames, ModuleError, ModuleResult, check_no_zero_byte};
-use ir_core::{Architecture, BinaryFormat, LibCall, TargetIsa};
+use ir_core::{LibCall, TargetIsa};
+use object_core::is_supported;
 use std::alloc::Global;
 use std::marker::Model;
 
@@ -144,21 +145,6 @@ impl ObjectBuilder {
         ensures { result ≡ ((self.now).settings).data_sections }
     {
         self.data_sections
-    }
-}
-
-fn is_supported(architecture: Architecture, format: BinaryFormat) -> bool
-    ensures { result ≡ is_supported architecture format }
-{
-    match format {
-        BinaryFormat::Elf => matches!(
-            architecture,
-            Architecture::X86_64 | Architecture::Aarch64 | Architecture::Riscv64
-        ),
-        BinaryFormat::Macho => {
-            matches!(architecture, Architecture::X86_64 | Architecture::Aarch64)
-        }
-        _ => false,
     }
 }
 

@@ -1,5 +1,5 @@
 -- The first cause of a part, found step by step, and the errors that tell it.
-use Rattle.std.proofs.Common.{◌≡◌, ℕ, ◌+◌, ◌<◌, List, [], ◌∷◌, length, count_by, arith, Option, Some, None, option_map, IfSome, refl, ap, sym, ◌∙◌, subst}
+use Rattle.std.proofs.Common.{◌≡◌, ℕ, ◌+◌, ◌<◌, Bool, true, false, not, List, [], ◌∷◌, map, length, count_by, arith, Option, Some, None, option_map, IfSome, refl, ap, sym, ◌∙◌, subst}
 use Rattle.std.specs.Option.{IsSomeAnd, IsSome}
 use Rattle.std.proofs.lemmas.List.Sums.{count_by-le-length}
 use Rattle.object_core.specs.declared.error.EmitError.{EmitError}
@@ -7,9 +7,13 @@ use Rattle.object_core.specs.declared.error.EmitError.TheVariants as limits
 use Rattle.object_elf.specs.ElfHolds.{ElfHolds}
 use Rattle.object_elf.specs.Limits.{limit_cause, TellsLimit}
 use Rattle.object_core.specs.ElfRows.{elf_table_of}
+use Rattle.object_core.specs.Tables.{table_in}
+use Rattle.ir_core.specs.declared.target.BinaryFormat.{BinaryFormat}
+use Rattle.ir_core.specs.declared.target.BinaryFormat.TheVariants.{Elf}
 use Rattle.cranelift_module.specs.declared.error.ModuleError.{ModuleError}
 use Rattle.cranelift_module.specs.LinkState.{state_of, steps}
-use Rattle.cranelift_module.specs.Refusal.{Refusal, refusal_told, Tells}
+use Rattle.cranelift_module.specs.declared.error.BackendCause.TheVariants.{UnsupportedTarget}
+use Rattle.cranelift_module.specs.Refusal.{Refusal, refusal_told, Tells, first_cause, refuse_if, backend, zero_byte}
 use Rattle.ir_core.specs.Target.{Target}
 use Rattle.ir_core.specs.Moments.{moments}
 use Rattle.object_core.specs.Object.{ObjectData}
@@ -19,9 +23,10 @@ use Rattle.cranelift_object.specs.Settings.{Settings, plain_settings}
 use Rattle.cranelift_object.specs.Opened.{OpenModule}
 use Rattle.cranelift_object.specs.Commands.{first_refusal, TellsAt, makes_function, makes_data}
 use Rattle.cranelift_object.specs.EndCause.{end_cause}
-use Rattle.cranelift_object.specs.Linked.{object_of}
-use Rattle.cranelift_object.specs.Part.{PartData, PartRefusal, at_start, at_call, at_end, over, start_cause, first_refused, part_cause, part_state, counts, counts_of}
-use Rattle.image_build.specs.Built.{commands, build_cause, TellsBuild, TellsPlace, TellsCause, TellsOver}
+use Rattle.cranelift_object.specs.Linked.{object_of, link_table}
+use Rattle.cranelift_object.specs.Part.{PartData, PartRefusal, at_start, at_call, at_end, over, start_cause, first_refused, part_cause, part_state, counts, counts_of, is_supported, is_mach_o}
+use Rattle.cranelift_object.proofs.KeptLaws.{supported_elf}
+use Rattle.image_build.specs.Built.{FileHolds, commands, build_cause, TellsBuild, TellsPlace, TellsCause, TellsOver}
 use Rattle.image_build.specs.declared.error.BuildCause.{BuildCause}
 use Rattle.image_build.specs.declared.error.BuildCause.TheVariants.{Module, TooMany, TooLarge, Mixed, OutOfMemory}
 use Rattle.image_build.specs.declared.error.Place.TheVariants.{Start, Command, End}
@@ -188,5 +193,18 @@ part_over part m o e c left ended h t told = tells_over part e c (finished part 
 pub part_valid : (part : PartData) (m : OpenModule) (o : ObjectData) → IsLeft part m → end_cause m.state ≡ None → o ≡ object_of m.settings m.state → limit_cause (counts_of o) ≡ None → build_cause (commands part ∷ []) ≡ None
 part_valid part m o left ended h free = valid_part part (finished part m left ended) (rw (same_object part m o left h) at free)
 
-pub part_built : (part : PartData) (m : OpenModule) (o : ObjectData) (b : List ℕ) → IsLeft part m → o ≡ object_of m.settings m.state → ElfHolds b (elf_table_of o) → ElfHolds b (elf_table_of (object_of part.settings (part_state part)))
-part_built part m o b left h holds = rw (same_object part m o left h) at holds
+supported_start : (supported : Bool) (causes : List (Option Refusal)) → first_cause (refuse_if (not supported) (backend UnsupportedTarget) ∷ causes) ≡ None → supported ≡ true
+supported_start true causes h = refl
+supported_start false causes h = absurd (cc)
+
+-- a part that was begun and isn't Mach-O has an ELF file
+elf_part : (part : PartData) → start_cause part.settings part.target ≡ None → is_mach_o part.target.triple.architecture part.target.triple.binary_format ≡ false → (object_of part.settings (part_state part)).format ≡ Elf
+unfolding start_cause object_of state_of
+elf_part part started other = supported_elf part.target.triple.architecture part.target.triple.binary_format (supported_start (is_supported part.target.triple.architecture part.target.triple.binary_format) (zero_byte part.settings.file_name ∷ map zero_byte part.settings.library_names) started) other
+
+held_elf : (format : BinaryFormat) (b : List ℕ) (o : ObjectData) → format ≡ Elf → ElfHolds b (elf_table_of o) → FileHolds b (table_in format o)
+held_elf format b o e holds = rw e holds
+
+pub part_built : (part : PartData) (m : OpenModule) (o : ObjectData) (b : List ℕ) → IsLeft part m → is_mach_o part.target.triple.architecture part.target.triple.binary_format ≡ false → o ≡ object_of m.settings m.state → ElfHolds b (elf_table_of o)
+    → FileHolds b (link_table part.settings (part_state part))
+part_built part m o b left other h holds = held_elf (object_of part.settings (part_state part)).format b (object_of part.settings (part_state part)) (elf_part part left.passed.start other) (rw (same_object part m o left h) at holds)

@@ -4,3 +4,5 @@ pub mod Counted
 pub mod ObjectNames
 pub mod Sections
 pub mod Standards
+pub mod Forming
+pub mod AllKinds

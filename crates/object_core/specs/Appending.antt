@@ -14,7 +14,7 @@ use Rattle.object_core.specs.declared.kinds.SymbolSection.TheVariants.{Undefined
 use Rattle.object_core.specs.declared.relocation.Relocation.{Relocation}
 use Rattle.object_core.specs.declared.symbol.Symbol.{Symbol}
 use Rattle.object_core.specs.Object.{SymbolData, SectionData, ObjectData, named}
-use Rattle.object_core.specs.Standard.{standard_place, is_same_shared, takes_no_bytes, empty_section, empty_standard, empty_subsection}
+use Rattle.object_core.specs.Standard.{standard_place, is_same_shared, takes_no_bytes, empty_section, empty_standard_in, empty_subsection}
 pub use Rattle.ir_core.specs.Changes.{changed_at}
 
 -- an object without sections and symbols
@@ -46,15 +46,31 @@ standard_at sections standard = position_from (λ s. is_same_shared (Some standa
 
 -- a standard section is made at its first use
 abbrev pub with_standard : ObjectData → StandardSection → Option ℕ → ObjectData
-with_standard o standard None = record o { sections = o.sections ++ empty_standard standard ∷ [] }
+with_standard o standard None = record o { sections = o.sections ++ empty_standard_in o.format standard ∷ [] }
 with_standard o standard (Some k) = o
 
 abbrev pub with_standard_section : ObjectData → StandardSection → ObjectData
 with_standard_section o standard = with_standard o standard (standard_at o.sections standard)
 
--- a section beside a standard one
+-- the number that a standard section has once there is one
+abbrev pub standard_number : ObjectData → StandardSection → ℕ
+standard_number o standard = unwrap_or (standard_at o.sections standard) (length o.sections)
+
+-- a section beside a standard one; in Mach-O that one itself
+abbrev pub with_subsection_in : BinaryFormat → ObjectData → StandardSection → ObjectData
+with_subsection_in Macho o standard = with_standard_section o standard
+with_subsection_in _ o standard = record o { sections = o.sections ++ empty_subsection standard ∷ [] }
+
 abbrev pub with_subsection : ObjectData → StandardSection → ObjectData
-with_subsection o standard = record o { sections = o.sections ++ empty_subsection standard ∷ [] }
+with_subsection o standard = with_subsection_in o.format o standard
+
+-- its number
+abbrev pub subsection_number_in : BinaryFormat → ObjectData → StandardSection → ℕ
+subsection_number_in Macho o standard = standard_number o standard
+subsection_number_in _ o standard = length o.sections
+
+abbrev pub subsection_number : ObjectData → StandardSection → ℕ
+subsection_number o standard = subsection_number_in o.format o standard
 
 -- -- sections of any name
 

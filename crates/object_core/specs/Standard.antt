@@ -1,4 +1,4 @@
--- The standard sections of ELF. The choice of names and kinds is this project's own.
+-- The standard sections of ELF and Mach-O. The choice of names and kinds is this project's own.
 use Rattle.std.specs.Prelude.{ℕ, ◌==◌, Bool, true, false, List, [], ◌++◌, codes, Option, Some, None}
 use Rattle.ir_core.specs.declared.target.BinaryFormat.{BinaryFormat}
 use Rattle.ir_core.specs.declared.target.BinaryFormat.TheVariants.{Macho}
@@ -9,6 +9,7 @@ use Rattle.object_core.specs.declared.kinds.SectionKind.{SectionKind}
 use Rattle.object_core.specs.declared.kinds.SectionKind.TheVariants as kind
 use Rattle.object_core.specs.Object.{SectionData}
 
+-- the name of a standard section in ELF
 abbrev pub standard_name : StandardSection → List ℕ
 standard_name Text = codes ".text"
 standard_name Data = codes ".data"
@@ -26,6 +27,38 @@ standard_kind ReadOnlyDataWithRel = kind.ReadOnlyDataWithRel
 standard_kind UninitializedData = kind.UninitializedData
 standard_kind Tls = kind.Tls
 standard_kind UninitializedTls = kind.UninitializedTls
+
+-- the segment of a standard section in Mach-O, which has none for thread-local data
+abbrev pub mach_segment : StandardSection → List ℕ
+mach_segment Text = codes "__TEXT"
+mach_segment Data = codes "__DATA"
+mach_segment ReadOnlyData = codes "__TEXT"
+mach_segment ReadOnlyDataWithRel = codes "__DATA"
+mach_segment UninitializedData = codes "__DATA"
+mach_segment Tls = []
+mach_segment UninitializedTls = []
+
+-- its name there
+abbrev pub mach_name : StandardSection → List ℕ
+mach_name Text = codes "__text"
+mach_name Data = codes "__data"
+mach_name ReadOnlyData = codes "__const"
+mach_name ReadOnlyDataWithRel = codes "__const"
+mach_name UninitializedData = codes "__bss"
+mach_name Tls = []
+mach_name UninitializedTls = []
+
+-- its flags there: S_REGULAR 0, S_ZEROFILL 1; code has S_ATTR_PURE_INSTRUCTIONS 0x80000000 and S_ATTR_SOME_INSTRUCTIONS 0x400
+abbrev pub mach_flags : StandardSection → ℕ
+mach_flags Text = 0x80000400
+mach_flags UninitializedData = 1
+mach_flags _ = 0
+
+-- the format has this standard section
+abbrev pub is_standard_in : BinaryFormat → StandardSection → Bool
+is_standard_in Macho Tls = false
+is_standard_in Macho UninitializedTls = false
+is_standard_in _ standard = true
 
 -- the place of a standard section in their order
 abbrev pub standard_place : StandardSection → ℕ
@@ -64,3 +97,12 @@ empty_standard standard = empty_section [] (standard_name standard) (standard_ki
 -- a section of ELF beside a standard one, in which nothing is yet
 abbrev pub empty_subsection : StandardSection → SectionData
 empty_subsection standard = empty_section [] (standard_name standard ++ codes ".subsection") (standard_kind standard) 0 None
+
+-- a standard section of Mach-O in which nothing is yet
+abbrev pub empty_mach_standard : StandardSection → SectionData
+empty_mach_standard standard = empty_section (mach_segment standard) (mach_name standard) (standard_kind standard) (mach_flags standard) (Some standard)
+
+-- a standard section of a format in which nothing is yet
+abbrev pub empty_standard_in : BinaryFormat → StandardSection → SectionData
+empty_standard_in Macho standard = empty_mach_standard standard
+empty_standard_in _ standard = empty_standard standard

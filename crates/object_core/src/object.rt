@@ -1,18 +1,17 @@
 //! Objects: sections and symbols in order of creation.
 
-ghost use Rattle.std.specs.Prelude.{◌≡◌, ◌+◌, ◌∷◌, ◌++◌, [], ◌<◌, ◌^◌, true, length, replicate, slice_get, Some, None, IsOk, IfOk, OnErr, OnOk, unwrap_or, option_map, map, IfSome};
+ghost use Rattle.std.specs.Prelude.{◌≡◌, ◌+◌, ◌∷◌, ◌++◌, [], ◌<◌, ◌^◌, true, length, replicate, slice_get, Some, None, IsOk, IfOk, OnErr, OnOk, option_map, map, IfSome};
 ghost use Rattle.std.specs.List.{All, position_from};
 ghost use Rattle.std.specs.Str.{bytes_eq};
 ghost use Rattle.std.specs.Int.{is_power_of_two};
 ghost use Rattle.std.specs.Borrow.{Lends, sem};
-ghost use Rattle.ir_core.specs.declared.target.BinaryFormat.TheVariants.{Elf};
 ghost use Rattle.object_core.specs.contracts.object.Object.{the_row};
 ghost use Rattle.object_core.specs.contracts.symbol.Symbol.{the_row as symbol_row};
 ghost use Rattle.object_core.specs.Object.{named, plain_symbol, body_of};
 ghost use Rattle.object_core.specs.Names.{text_at};
 ghost use Rattle.object_core.specs.ObjectNames.{name_bytes};
-ghost use Rattle.object_core.specs.Standard.{empty_section};
-ghost use Rattle.object_core.specs.Appending.{empty_object, with_build_version, with_symbol, with_symbol_at, file_symbol, standard_at, with_standard_section, with_subsection, with_section, with_retain, with_relocation, next_offset, room_in, stored_in, with_section_data, with_section_room, with_definition, with_symbol_data, with_symbol_zeros, with_symbol_bss, IsUndefined, HasBytes, IsZeroFill, AreSections, kept_places};
+ghost use Rattle.object_core.specs.Standard.{empty_section, empty_subsection, is_standard_in};
+ghost use Rattle.object_core.specs.Appending.{empty_object, with_build_version, with_symbol, with_symbol_at, file_symbol, standard_at, with_standard_section, standard_number, with_standard, with_subsection, subsection_number, with_section, with_retain, with_relocation, next_offset, room_in, stored_in, with_section_data, with_section_room, with_definition, with_symbol_data, with_symbol_zeros, with_symbol_bss, IsUndefined, HasBytes, IsZeroFill, AreSections, kept_places};
 
 use crate::names::Names;
 use crate::placing::push_reserved;
@@ -130,6 +129,15 @@ impl Object {
         ensures bound { length (self.now).sections < 2 ^ 63 }
     {
         &self.sections
+    }
+
+    /// The section of this number.
+    pub fn section(&self, id: SectionId) -> &Section
+        requires { id < length (self.now).sections }
+        ensures { option_map body_of (slice_get (self.now).sections id) ≡ Some result.now }
+    {
+        let sections = self.sections();
+        &sections[id.as_number()]
     }
 
     /// The symbols in order of creation.
@@ -257,16 +265,35 @@ impl Object {
         self.push_section(segment, name, kind, macho_flags, None)
     }
 
-    /// The section of a standard section, which is made at its first use.
+    /// The section of a standard section, which is made at its first use. Mach-O has none for thread-local data.
     pub fn section_id(&mut self, standard: StandardSection) -> Result<SectionId, AllocError>
-        requires { (self.old).format ≡ Elf }
-        ensures id { IfOk result (λ id. id ≡ unwrap_or (standard_at (self.old).sections standard) (length (self.old).sections)) }
+        requires { is_standard_in (self.old).format standard ≡ true }
+        ensures id { IfOk result (λ id. id ≡ standard_number self.old standard) }
         ensures ok { OnOk result (self.new ≡ with_standard_section self.old standard) }
         ensures err { OnErr result (self.new ≡ self.old) }
     {
         match self.kept_number(standard) {
             Some(number) => Ok(SectionId::from_number(number)),
-            None => self.push_section(&[], standard.name(), standard.kind(), 0, Some(standard)),
+            None => self.push_standard(standard),
+        }
+    }
+
+    // Appends a standard section that is not there yet.
+    fn push_standard(&mut self, standard: StandardSection) -> Result<SectionId, AllocError>
+        requires { standard_at (self.old).sections standard ≡ None }
+        ensures id { IfOk result (λ id. id ≡ length (self.old).sections) }
+        ensures ok { OnOk result (self.new ≡ with_standard self.old standard None) }
+        ensures err { OnErr result (self.new ≡ self.old) }
+    {
+        match self.format {
+            BinaryFormat::Macho => self.push_section(
+                standard.mach_segment(),
+                standard.mach_name(),
+                standard.kind(),
+                standard.mach_flags(),
+                Some(standard),
+            ),
+            _ => self.push_section(&[], standard.name(), standard.kind(), 0, Some(standard)),
         }
     }
 
@@ -278,11 +305,23 @@ impl Object {
         self.standard_sections[place]
     }
 
-    /// A new section beside a standard one, under its name and `.subsection`.
+    /// A new section beside a standard one, under its name and `.subsection`. In Mach-O it is the standard one itself.
     pub fn add_subsection(&mut self, standard: StandardSection) -> Result<SectionId, AllocError>
-        requires { (self.old).format ≡ Elf }
-        ensures id { IfOk result (λ id. id ≡ length (self.old).sections) }
+        requires { is_standard_in (self.old).format standard ≡ true }
+        ensures id { IfOk result (λ id. id ≡ subsection_number self.old standard) }
         ensures ok { OnOk result (self.new ≡ with_subsection self.old standard) }
+        ensures err { OnErr result (self.new ≡ self.old) }
+    {
+        match self.format {
+            BinaryFormat::Macho => self.section_id(standard),
+            _ => self.push_subsection(standard),
+        }
+    }
+
+    // Appends a section beside a standard one.
+    fn push_subsection(&mut self, standard: StandardSection) -> Result<SectionId, AllocError>
+        ensures id { IfOk result (λ id. id ≡ length (self.old).sections) }
+        ensures ok { OnOk result (self.new ≡ record self.old { sections = (self.old).sections ++ empty_subsection standard ∷ [] }) }
         ensures err { OnErr result (self.new ≡ self.old) }
     {
         let mut name = standard.name().to_vec(self.alloc)?;

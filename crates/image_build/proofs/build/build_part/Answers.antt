@@ -26,7 +26,7 @@ returns-in-Err-finish-clause-cause c =
 pub returns-in-Ok-emit-clause-built : goal.returns-in-Ok-emit-clause-built
 returns-in-Ok-emit-clause-built c =
     let left = part_left c.args.part.now c.in-Ok.module _ _ c.in-Ok.ensures.ok c.in-Ok.ensures.none c.commands.ensures c.in_default.ensures.none c.in_default.ensures.ok c.in_default.ensures.keeps in
-    part_built c.args.part.now _ c.in-Ok-finish.product.object c.in-Ok-emit.bytes.items left (ap (λ (p : ProductData). p.object) c.in-Ok-finish.ensures.ok) c.in-Ok-emit.ensures.holds
+    part_built c.args.part.now _ c.in-Ok-finish.product.object c.in-Ok-emit.bytes.items left c.requires.format (ap (λ (p : ProductData). p.object) c.in-Ok-finish.ensures.ok) c.in-Ok-emit.ensures.holds
 
 pub returns-in-Ok-emit-clause-valid : goal.returns-in-Ok-emit-clause-valid
 returns-in-Ok-emit-clause-valid c =
