@@ -8,6 +8,8 @@ mod ir_tests;
 #[cfg(test)]
 mod json_tests;
 #[cfg(test)]
+mod mach_refusal_tests;
+#[cfg(test)]
 mod module_text_tests;
 #[cfg(test)]
 mod object_tests;
