@@ -14,6 +14,8 @@ mod files;
 #[cfg(test)]
 mod limit_tests;
 #[cfg(test)]
+mod mach_files;
+#[cfg(test)]
 mod pe_tests;
 #[cfg(test)]
 mod query_tests;

@@ -1,8 +1,11 @@
-//! What files are read as. The lines come from a reader of ELF files that is no part of this project.
+//! What files are read as. The lines come from readers of ELF and Mach-O files that are no part of this project.
 
 use crate::build_tests::{MAIN, NONE, words};
 use crate::data_files::SECTIONS_FILE;
 use crate::files::MAIN_FILE;
+use crate::mach_files::{
+    CALL_FILE, CALL_LINE, CLANG_ARM64_FILE, CLANG_ARM64_LINE, PAGE_FILE, PAGE_LINE,
+};
 use crate::target_files::RISCV64_FILE;
 use byte_core::MemHost;
 use objtool_run::run;
@@ -96,6 +99,9 @@ fn files_are_read_as_their_rows(rt: HostRuntime) -> Result<(), Fail> {
         (MAIN_FILE, MAIN_LINE),
         (SECTIONS_FILE, SECTIONS_LINE),
         (RISCV64_FILE, RISCV64_LINE),
+        (CALL_FILE, CALL_LINE),
+        (PAGE_FILE, PAGE_LINE),
+        (CLANG_ARM64_FILE, CLANG_ARM64_LINE),
     ];
     for (file, pieces) in cases {
         let file = bytes_of(alloc, file)?;
@@ -112,12 +118,14 @@ fn files_are_read_as_their_rows(rt: HostRuntime) -> Result<(), Fail> {
 fn what_is_no_object_file_is_refused(rt: HostRuntime) -> Result<(), Fail> {
     let alloc = rt.alloc();
     let read = words(alloc, &["read"])?;
-    let file = bytes_of(alloc, MAIN_FILE)?;
-    for len in 0..file.len() {
-        let mut host = MemHost::new(alloc, &file[..len], NONE, 100)?;
-        assert_eq!(rt; run(alloc, &read, &mut host), 1, "{len}");
-        assert_eq!(rt; host.output().len(), 0);
-        assert!(rt; host.errors() == b"neither an object file nor a fat file\n".as_slice());
+    for file in [MAIN_FILE, CALL_FILE] {
+        let file = bytes_of(alloc, file)?;
+        for len in 0..file.len() {
+            let mut host = MemHost::new(alloc, &file[..len], NONE, 100)?;
+            assert_eq!(rt; run(alloc, &read, &mut host), 1, "{len}");
+            assert_eq!(rt; host.output().len(), 0);
+            assert!(rt; host.errors() == b"neither an object file nor a fat file\n".as_slice());
+        }
     }
     Ok(())
 }
