@@ -96,7 +96,8 @@ fn is_bad_field(isa: &TargetIsa, size: Option<usize>, taken: &[bool], reloc: &Mo
 
 // Whether the format alone refuses a field that lies in the contents.
 fn is_refused(isa: &TargetIsa, taken: &[bool], reloc: &ModuleReloc) -> bool
-    ensures { (size : Option ℕ) (before : List ModuleReloc) → is_outside size reloc.now ≡ false → AreTaken (isa.now).triple.binary_format size taken.now before → result ≡ is_refused_in (isa.now).triple.binary_format (isa.now).triple.architecture before reloc.now }
+    ensures { (size : Option ℕ) (before : List ModuleReloc) → is_outside size reloc.now ≡ false
+        → AreTaken (isa.now).triple.binary_format size taken.now before → result ≡ is_refused_in (isa.now).triple.binary_format (isa.now).triple.architecture before reloc.now }
 {
     match isa.triple().binary_format {
         BinaryFormat::Macho => {

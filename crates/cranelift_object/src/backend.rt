@@ -239,7 +239,12 @@ impl Module for ObjectModule {
             return Err(error);
         }
         let relocs = pointers_of(alloc, desc)?;
-        if let Err(error) = check_relocs(alloc, self.builder.isa(), bytes_in(desc.init()), &relocs) {
+        if let Err(error) = check_relocs(
+            alloc,
+            self.builder.isa(),
+            bytes_in(desc.init()),
+            &relocs,
+        ) {
             return Err(error);
         }
         let writable = self.is_writable(data_id);

@@ -304,7 +304,8 @@ fn fits_mach(
     ensures narrow { result ≡ true → number.length < 4 }
     ensures field { result ≡ true → relocation.offset + 2 ^ number.length ≤ size }
     ensures addend { result ≡ true → has_room (mach_cputype architecture) number.r_type number.pcrel number.length relocation.addend ≡ true }
-    ensures no { result ≡ false → (kind : Reloc) → mach_number architecture kind ≡ Some number → relocation.offset + 2 ^ number.length ≤ size → has_room (mach_cputype architecture) number.r_type number.pcrel number.length relocation.addend ≡ true → ⊥ }
+    ensures no { result ≡ false → (kind : Reloc) → mach_number architecture kind ≡ Some number → relocation.offset + 2 ^ number.length ≤ size
+        → has_room (mach_cputype architecture) number.r_type number.pcrel number.length relocation.addend ≡ true → ⊥ }
 {
     if mach_kind(architecture, number).is_none() {
         return false;
