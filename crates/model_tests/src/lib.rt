@@ -1,4 +1,4 @@
-//! Tests of the model: the values of the code generator, declarations and objects in memory.
+//! Tests of the model: the values of the code generator, and declarations.
 #![tactic(auto)]
 
 #[cfg(test)]
@@ -8,10 +8,4 @@ mod ir_tests;
 #[cfg(test)]
 mod json_tests;
 #[cfg(test)]
-mod mach_refusal_tests;
-#[cfg(test)]
 mod module_text_tests;
-#[cfg(test)]
-mod object_tests;
-#[cfg(test)]
-mod reloc_tests;

@@ -143,11 +143,17 @@ fn cause_in(
     }
 }
 
-fn given_bytes(alloc: Global, section: &str) -> ModuleResult<DataDescription> {
+fn given_bytes(alloc: Global, section: &str, contents: &[u8]) -> ModuleResult<DataDescription> {
+    let contents = contents.to_vec(alloc)?;
     let mut desc = DataDescription::new(alloc);
-    let mut contents = Vec::new(alloc);
-    contents.push(1)?;
     desc.define(contents);
+    desc.set_custom_section(alloc, section)?;
+    Ok(desc)
+}
+
+fn given_zeros(alloc: Global, section: &str) -> ModuleResult<DataDescription> {
+    let mut desc = DataDescription::new(alloc);
+    desc.define_zeroinit(4);
     desc.set_custom_section(alloc, section)?;
     Ok(desc)
 }
@@ -155,24 +161,31 @@ fn given_bytes(alloc: Global, section: &str) -> ModuleResult<DataDescription> {
 #[test]
 fn bytes_are_refused_under_a_text_of_zero_fill(rt: HostRuntime) -> Result<(), Fail> {
     let alloc = rt.alloc();
-    let mut desc = given_bytes(alloc, "__DATA,__mine,zerofill")?;
+    let bytes = given_bytes(alloc, "__DATA,__mine,zerofill", b"\x01")?;
     assert_eq!(rt;
-        cause_in(alloc, BinaryFormat::Macho, false, &desc)?,
+        cause_in(alloc, BinaryFormat::Macho, false, &bytes)?,
         Some(BackendCause::ZerofillBytes)
     );
-    assert_eq!(rt; cause_in(alloc, BinaryFormat::Elf, false, &desc)?, None);
-    desc.define(Vec::new(alloc));
+    assert_eq!(rt; cause_in(alloc, BinaryFormat::Elf, false, &bytes)?, None);
+    let none = given_bytes(alloc, "__DATA,__mine,zerofill", b"")?;
     assert_eq!(rt;
-        cause_in(alloc, BinaryFormat::Macho, false, &desc)?,
+        cause_in(alloc, BinaryFormat::Macho, false, &none)?,
         Some(BackendCause::ZerofillBytes)
     );
-    desc.define_zeroinit(4);
-    assert_eq!(rt; cause_in(alloc, BinaryFormat::Macho, false, &desc)?, None);
-    desc.set_custom_section(alloc, "__DATA")?;
+    let zeros = given_zeros(alloc, "__DATA,__mine,zerofill")?;
+    assert_eq!(rt; cause_in(alloc, BinaryFormat::Macho, false, &zeros)?, None);
+    Ok(())
+}
+
+#[test]
+fn a_section_text_is_refused_by_its_fault(rt: HostRuntime) -> Result<(), Fail> {
+    let alloc = rt.alloc();
+    let desc = given_zeros(alloc, "__DATA")?;
     assert_eq!(rt;
         cause_in(alloc, BinaryFormat::Macho, false, &desc)?,
         Some(BackendCause::BadSection(SectionFault::NoComma))
     );
+    assert_eq!(rt; cause_in(alloc, BinaryFormat::Elf, false, &desc)?, None);
     Ok(())
 }
 
