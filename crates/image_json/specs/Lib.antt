@@ -1,4 +1,5 @@
 pub mod RowJson
 pub mod ElfJson
 pub mod MachJson
+pub mod FatJson
 pub mod ImageJson

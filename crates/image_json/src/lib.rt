@@ -3,10 +3,12 @@
 #![tactic(auto)]
 
 mod elf_json;
+mod fat_json;
 mod mach_json;
 mod pieces;
 mod told;
 
 pub use elf_json::elf_text;
+pub use fat_json::fat_text;
 pub use mach_json::mach_text;
 pub use told::image_text;

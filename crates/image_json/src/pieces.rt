@@ -5,7 +5,7 @@ ghost use Rattle.std.specs.List.{All};
 ghost use Rattle.hex.specs.Hex.{encode_lower, lower_digits};
 ghost use Rattle.serde_json.specs.Written.{compact_text, comma_if};
 ghost use Rattle.json_form.specs.Written.{number_value};
-ghost use Rattle.image_json.specs.RowJson.{hex_value, integer_value, next_flag, next_numbers};
+ghost use Rattle.image_json.specs.RowJson.{hex_value, integer_value, flag_value, next_flag, next_numbers};
 
 use std::alloc::AllocError;
 
@@ -37,10 +37,18 @@ pub(crate) fn push_integer(out: &mut Vec<u8>, number: i64) -> Result<(), AllocEr
 pub(crate) fn push_next_flag(out: &mut Vec<u8>, flag: bool) -> Result<(), AllocError>
     ensures { OnOk result (out.new.items ≡ out.old.items ++ next_flag flag) }
 {
+    out.push(b',')?;
+    push_flag(out, flag)
+}
+
+/// Appends a truth value.
+pub(crate) fn push_flag(out: &mut Vec<u8>, flag: bool) -> Result<(), AllocError>
+    ensures { OnOk result (out.new.items ≡ out.old.items ++ compact_text (flag_value flag)) }
+{
     if flag {
-        out.extend_from_slice(b",true")
+        out.extend_from_slice(b"true")
     } else {
-        out.extend_from_slice(b",false")
+        out.extend_from_slice(b"false")
     }
 }
 

@@ -5,6 +5,7 @@ ghost use Rattle.image_read.specs.Image.{ExplainsRead};
 ghost use Rattle.image_json.specs.ImageJson.{IsImageText};
 
 use crate::elf_json::elf_text;
+use crate::fat_json::fat_text;
 use crate::mach_json::mach_text;
 use image_read::{Image, ReadError, read_image};
 use std::alloc::Global;
@@ -23,7 +24,10 @@ pub fn image_text(alloc: Global, bytes: &[u8]) -> Result<Vec<u8>, ReadError>
             Ok(text) => Ok(text),
             Err(_) => Err(ReadError::OutOfMemory),
         },
-        Ok(Image::Fat(_)) => unreachable!(),
+        Ok(Image::Fat(image)) => match fat_text(alloc, &image) {
+            Ok(text) => Ok(text),
+            Err(_) => Err(ReadError::OutOfMemory),
+        },
         Err(error) => Err(error),
     }
 }

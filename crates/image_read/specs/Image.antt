@@ -2,16 +2,17 @@
 use Rattle.std.specs.Prelude.{List, ℕ}
 use Rattle.image_read.specs.ElfImage.{ElfReads}
 use Rattle.image_read.specs.MachImage.{MachReads}
+use Rattle.image_read.specs.FatImage.{FatReads}
 use Rattle.image_read.specs.declared.image.Image.{Image}
 use Rattle.image_read.specs.declared.image.Image.TheVariants.{Elf, Mach, Fat}
 use Rattle.image_read.specs.declared.error.ReadError.{ReadError}
 use Rattle.image_read.specs.declared.error.ReadError.TheVariants.{NoReading, OutOfMemory}
 
--- the file is read as this image; no fat file is read yet
+-- the file is read as this image
 abbrev pub Reads : List ℕ → Image → Type 0
 Reads b (Elf image) = ElfReads b image
 Reads b (Mach image) = MachReads b image
-Reads b (Fat image) = ⊥
+Reads b (Fat image) = FatReads b image
 
 -- a format reads the file
 pub record HasImage (b : List ℕ) : Type 0 where

@@ -6,7 +6,7 @@ ghost use Rattle.image_read.specs.declared.image.Image.{Image};
 
 use crate::ReadError;
 use crate::elf::{ElfImage, read_elf};
-use crate::fat::FatImage;
+use crate::fat::{FatImage, read_fat};
 use crate::mach::{MachImage, read_mach};
 use std::alloc::Global;
 
@@ -21,8 +21,8 @@ pub enum Image<'a> {
     Fat(FatImage<'a>),
 }
 
-/// The image that the bytes of a file have. NoReading where no format reads them; fat files aren't read yet.
-#[tactic(auto, using(crate::proofs::Laws::no_image, crate::proofs::Laws::elf_has_image, crate::proofs::Laws::mach_has_image))]
+/// The image that the bytes of a file have. NoReading where no format reads them.
+#[tactic(auto, using(crate::proofs::Laws::no_image, crate::proofs::Laws::elf_has_image, crate::proofs::Laws::mach_has_image, crate::proofs::Laws::fat_has_image))]
 pub fn read_image<'a>(alloc: Global, bytes: &'a [u8]) -> Result<Image<'a>, ReadError>
     ensures ok { IfOk result (Reads bytes.now) }
     ensures cause { IfErr result (ExplainsRead bytes.now) }
@@ -32,7 +32,11 @@ pub fn read_image<'a>(alloc: Global, bytes: &'a [u8]) -> Result<Image<'a>, ReadE
         Err(ReadError::OutOfMemory) => Err(ReadError::OutOfMemory),
         Err(ReadError::NoReading) => match read_mach(alloc, bytes) {
             Ok(image) => Ok(Image::Mach(image)),
-            Err(error) => Err(error),
+            Err(ReadError::OutOfMemory) => Err(ReadError::OutOfMemory),
+            Err(ReadError::NoReading) => match read_fat(alloc, bytes) {
+                Ok(image) => Ok(Image::Fat(image)),
+                Err(error) => Err(error),
+            },
         },
     }
 }

@@ -4,6 +4,8 @@
 #[cfg(test)]
 mod elf_tests;
 #[cfg(test)]
+mod fat_tests;
+#[cfg(test)]
 mod mach_tests;
 #[cfg(test)]
 mod small_files;

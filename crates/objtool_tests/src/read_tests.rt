@@ -1,4 +1,4 @@
-//! What files are read as. The lines come from readers of ELF and Mach-O files that are no part of this project.
+//! What files are read as. The lines of ELF and Mach-O files come from readers that are no part of this project.
 
 use crate::build_tests::{MAIN, NONE, words};
 use crate::data_files::SECTIONS_FILE;
@@ -69,6 +69,20 @@ const RISCV64_LINE: &[&str] = &[
     "6d6d6f7665\",16,0,0,0,0]]}",
 ];
 
+const NO_SLICES_FILE: &[&str] = &["cafebabe00000000"];
+
+const NO_SLICES_LINE: &[&str] = &["{\"format\":\"fat\",\"is_64\":false,\"slices\":[]}"];
+
+/// A fat file with entries of 64 bits, and two slices of 3 and of 2 bytes.
+const WIDE_FILE: &[&str] = &[
+    "cafebabf0000000201000007000000030000000000000050000000000000000300000004000000000100000c800000020000",
+    "000000000060000000000000000200000005000000090000000000000000010203000000000000000000000000000405",
+];
+
+const WIDE_LINE: &[&str] = &[
+    "{\"format\":\"fat\",\"is_64\":true,\"slices\":[[16777223,3,4,80,3],[16777228,2147483650,5,96,2]]}",
+];
+
 /// The bytes of a file that stands in lines of hexadecimal.
 fn bytes_of(alloc: Global, lines: &[&str]) -> Result<Vec<u8>, Fail> {
     let mut text = String::new(alloc);
@@ -102,6 +116,8 @@ fn files_are_read_as_their_rows(rt: HostRuntime) -> Result<(), Fail> {
         (CALL_FILE, CALL_LINE),
         (PAGE_FILE, PAGE_LINE),
         (CLANG_ARM64_FILE, CLANG_ARM64_LINE),
+        (NO_SLICES_FILE, NO_SLICES_LINE),
+        (WIDE_FILE, WIDE_LINE),
     ];
     for (file, pieces) in cases {
         let file = bytes_of(alloc, file)?;
@@ -118,7 +134,7 @@ fn files_are_read_as_their_rows(rt: HostRuntime) -> Result<(), Fail> {
 fn what_is_no_object_file_is_refused(rt: HostRuntime) -> Result<(), Fail> {
     let alloc = rt.alloc();
     let read = words(alloc, &["read"])?;
-    for file in [MAIN_FILE, CALL_FILE] {
+    for file in [MAIN_FILE, CALL_FILE, WIDE_FILE] {
         let file = bytes_of(alloc, file)?;
         for len in 0..file.len() {
             let mut host = MemHost::new(alloc, &file[..len], NONE, 100)?;
