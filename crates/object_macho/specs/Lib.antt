@@ -1,0 +1,16 @@
+pub mod Layout
+pub mod MachHolds
+pub mod Counts
+pub mod PlainCounts
+pub mod Limits
+pub mod File
+pub mod Fitting
+pub mod Plan
+pub mod Addends
+pub mod Whole
+pub mod Rows
+pub mod Orders
+pub mod Starts
+pub mod AddendLaw
+pub mod Compared
+pub mod TableImage
