@@ -3,7 +3,7 @@
 # functions and n data objects, each with a relocation to the other, is built and its file read. It tells instructions a
 # symbol by valgrind's callgrind, of the whole run and of each function that makes the object, writes its file or reads one and
 # isn't joined to its caller, with all that it calls, where these are ten or more; the greatest memory and the seconds of a
-# run; and for reading the same beside `readelf -aW`. PROGRAM names another program than the repository's own. Run by hand;
+# run; and for reading the same beside `readelf -aW`. PROGRAM names another program than the repository's own, FORMAT another format than `elf`. Run by hand;
 # it is skipped where the program isn't built, and the counts where valgrind is missing. It judges nothing.
 set -eu
 top=$(cd "$(dirname "$0")/.." && pwd)
@@ -13,8 +13,8 @@ program=${PROGRAM:-$top/crates/objtool/out/objtool}
 room=$(mktemp -d)
 trap 'rm -rf "$room"' EXIT
 part() {
-    awk -v n="$1" 'BEGIN {
-        printf "[{\"name\":\"a.o\",\"arch\":\"x86_64\",\"format\":\"elf\",\"commands\":["
+    awk -v n="$1" -v format="${FORMAT:-elf}" 'BEGIN {
+        printf "[{\"name\":\"a.o\",\"arch\":\"x86_64\",\"format\":\"%s\",\"commands\":[", format
         for (k = 0; k < n; k++) {
             printf "{\"op\":\"declare_function\",\"name\":\"f%d\",\"linkage\":\"Export\"},", k
             printf "{\"op\":\"declare_data\",\"name\":\"d%d\",\"linkage\":\"Local\"},", k
@@ -34,7 +34,7 @@ counted() {
     valgrind --tool=callgrind --callgrind-out-file="$room/counts" "$program" "$2" < "$room/$2" > "$room/out" 2> /dev/null
     callgrind_annotate --inclusive=yes --threshold=100 "$room/counts" 2> /dev/null | awk -v symbols="$1" '
         /PROGRAM TOTALS/ { gsub(",", "", $1); printf "  instructions a symbol: %d in all\n", $1 / symbols }
-        match($0, /(object_core|object_elf|cranelift_object|image_build|image_read|image_json)::[A-Za-z_:]+/) {
+        match($0, /(object_core|object_elf|object_macho|cranelift_object|image_build|image_read|image_json)::[A-Za-z_:]+/) {
             word = substr($0, RSTART, RLENGTH); gsub(",", "", $1)
             if (!(word in seen) && $1 / symbols >= 10) { seen[word] = 1; printf "    %6d %s\n", $1 / symbols, word }
         }'
@@ -57,7 +57,7 @@ for n in "$@"; do
     "$program" build --raw < "$room/build" > "$room/read" 2> /dev/null || continue
     timed read "$program" read < "$room/read" > "$room/text"
     echo "  $(wc -c < "$room/read") bytes in, $(wc -c < "$room/text") out"
-    if command -v readelf >/dev/null 2>&1; then
+    if [ "${FORMAT:-elf}" = elf ] && command -v readelf >/dev/null 2>&1; then
         timed 'readelf -aW' readelf -aW "$room/read" > /dev/null
     fi
     counted $((2 * n)) read

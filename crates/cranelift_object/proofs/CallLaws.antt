@@ -1,26 +1,27 @@
 -- Calls of a module, accepted and refused.
-use Rattle.std.proofs.Common.{◌≡◌, ℕ, ℤ, ◌<◌, ◌^◌, ◌++◌, ◌∷◌, ◌&&◌, not, List, [], Bool, true, false, cond, codes, length, Option, Some, None, refl, ap, sym, subst}
-use Rattle.std.specs.Prelude.{slice_get, IfSome, Ok, Err, unwrap_or, option_map, option_to_list, find, decimal}
+use Rattle.std.proofs.Common.{◌≡◌, ℕ, ℤ, ◌<◌, ◌^◌, ◌++◌, ◌∷◌, ◌&&◌, ◌||◌, not, List, [], Bool, true, false, cond, codes, length, Option, Some, None, refl, ap, sym, ◌∙◌, subst}
+use Rattle.std.specs.Prelude.{slice_get, IfSome, Ok, Err, unwrap_or, option_map, option_to_list, find, decimal, is_some, is_none}
 use Rattle.std.specs.List.{list_all}
 use Rattle.std.specs.Option.{option_or}
 use Rattle.std.proofs.lemmas.Option.{slice_get_within}
 use Rattle.ir_core.specs.Signature.{SignatureData}
 use Rattle.cranelift_module.specs.declared.error.ModuleError.{ModuleError}
-use Rattle.cranelift_module.specs.declared.error.BackendCause.TheVariants.{BadAlign}
+use Rattle.cranelift_module.specs.declared.error.BackendCause.TheVariants.{BadAlign, NoContents, TlsPlace}
 use Rattle.cranelift_module.specs.declared.linkage.Linkage.{Linkage}
 use Rattle.cranelift_module.specs.declared.reloc.ModuleReloc.{ModuleReloc}
 use Rattle.cranelift_module.specs.declared.identifiers.FuncOrDataId.{FuncOrDataId}
 use Rattle.cranelift_module.specs.declared.identifiers.FuncOrDataId.TheVariants.{Func, Data}
-use Rattle.cranelift_module.specs.Call.{Call, declare_function, declare_data, define_function, define_data, Description, bytes}
+use Rattle.cranelift_module.specs.Call.{Call, declare_function, declare_data, define_function, define_data, Description, Contents, bytes}
 use Rattle.cranelift_module.specs.Rows.{FunctionRow, DataRow}
 use Rattle.cranelift_module.specs.Definitions.{Definition, definition_made, relocs_of, size_of, is_writable, is_thread_local}
 use Rattle.cranelift_module.specs.Init.{are_in_range, is_function_within, is_value_within}
 use Rattle.ir_core.specs.Target.{Target}
 use Rattle.ir_core.specs.declared.target.BinaryFormat.{BinaryFormat}
+use Rattle.ir_core.specs.declared.target.BinaryFormat.TheVariants.{Elf, Coff, Macho, Wasm, Unknown}
 use Rattle.cranelift_module.specs.LinkState.{LinkState, step}
-use Rattle.cranelift_module.specs.Refusal.{Refusal, Tells, refusal, refusal_told, backend, undeclared, zero_byte, function_clash, data_clash, undefinable, undefinable_object, undefinable_data, description_cause, loose_function, loose_value, bad_reloc_from, bytes_in, is_bad_align, is_defined, first_cause, refuse_if, duplicate_definition, function_name, data_name}
+use Rattle.cranelift_module.specs.Refusal.{Refusal, Tells, refusal, refusal_told, backend, undeclared, zero_byte, function_clash, data_clash, undefinable, undefinable_object, undefinable_data, description_cause, loose_function, loose_value, bad_reloc_from, bytes_in, is_bad_align, is_defined, first_cause, refuse_if, duplicate_definition, function_name, data_name, section_cause, is_macho}
 use Rattle.cranelift_module.specs.IsCall.{IsCall}
-use Rattle.cranelift_object.specs.Kept.{IsBody}
+use Rattle.cranelift_object.specs.Kept.{IsBody, HasPlaceIn}
 
 -- -- the first of two causes
 
@@ -118,7 +119,7 @@ pub function_body : (target : Target) (functions objects id align : ℕ) (xs : L
 function_body target functions objects id align xs relocs rows d made below good judged sized =
     let is : record { identifier = Func id; contents = bytes xs; align = align; relocs = relocs; section = None; used = false; writable = false } ≡ d = cc in (
       sym (ap (λ (x : Definition). x.identifier) is),
-      subst (λ (x : Definition). size_of x.contents < 2 ^ 64 → IsBody target functions objects x) is (λ small. record { declared = below; sized = small; aligned = good; judged = judged; text = refl; plain = (tt, refl, refl) }) sized,
+      subst (λ (x : Definition). size_of x.contents < 2 ^ 64 → IsBody target functions objects x) is (λ small. record { declared = below; sized = small; aligned = good; judged = judged; text = refl; section = refl; plain = (tt, refl, refl) }) sized,
     )
 
 -- -- definitions of data objects
@@ -144,14 +145,17 @@ data_free format defined id d objects h = object_free defined id (slice_get obje
 description_none : (format : BinaryFormat) (defined : Bool) (id : ℕ) (d : Description) (objects : List DataRow) → undefinable_data format defined id d (slice_get objects id) ≡ None → description_cause format (is_thread_local (slice_get objects id)) d ≡ None
 description_none format defined id d objects h = (first_none (undefinable_object defined id (slice_get objects id)) (description_cause format (is_thread_local (slice_get objects id)) d) h).1
 
--- of seven causes the second to the fourth and the sixth don't hold
-pub record SevenNone (b c e f : Option Refusal) : Type 0 where
+-- seven causes don't hold
+pub record SevenNone (a b c e t f g : Option Refusal) : Type 0 where
+  pub first : a ≡ None
   pub second : b ≡ None
   pub third : c ≡ None
   pub fourth : e ≡ None
+  pub fifth : t ≡ None
   pub sixth : f ≡ None
+  pub seventh : g ≡ None
 
-seven_none : (a b c e t f g : Option Refusal) → first_cause (a ∷ b ∷ c ∷ e ∷ t ∷ f ∷ g ∷ []) ≡ None → SevenNone b c e f
+seven_none : (a b c e t f g : Option Refusal) → first_cause (a ∷ b ∷ c ∷ e ∷ t ∷ f ∷ g ∷ []) ≡ None → SevenNone a b c e t f g
 seven_none a b c e t f g h =
     let h1 = first_none a (first_cause (b ∷ c ∷ e ∷ t ∷ f ∷ g ∷ [])) h in
     let h2 = first_none b (first_cause (c ∷ e ∷ t ∷ f ∷ g ∷ [])) h1.1 in
@@ -159,10 +163,12 @@ seven_none a b c e t f g h =
     let h4 = first_none e (first_cause (t ∷ f ∷ g ∷ [])) h3.1 in
     let h5 = first_none t (first_cause (f ∷ g ∷ [])) h4.1 in
     let h6 = first_none f (first_cause (g ∷ [])) h5.1 in
-    record { second = h2.0; third = h3.0; fourth = h4.0; sixth = h6.0 }
+    let h7 = first_none g None h6.1 in
+    record { first = h1.0; second = h2.0; third = h3.0; fourth = h4.0; fifth = h5.0; sixth = h6.0; seventh = h7.0 }
 
 described : (format : BinaryFormat) (tls : Bool) (d : Description) → description_cause format tls d ≡ None
-    → SevenNone (refuse_if (is_bad_align (unwrap_or d.align 1)) (backend (BadAlign (unwrap_or d.align 1)))) (option_map (λ (a : ℕ × ℕ). undeclared (codes "fn" ++ decimal a.1)) (loose_function d)) (option_map (λ (a : ℕ × ℕ × ℤ). undeclared (codes "gv" ++ decimal a.1)) (loose_value d)) (zero_byte (unwrap_or d.section []))
+    → SevenNone (refuse_if (is_none d.contents) (backend NoContents)) (refuse_if (is_bad_align (unwrap_or d.align 1)) (backend (BadAlign (unwrap_or d.align 1)))) (option_map (λ (a : ℕ × ℕ). undeclared (codes "fn" ++ decimal a.1)) (loose_function d))
+    (option_map (λ (a : ℕ × ℕ × ℤ). undeclared (codes "gv" ++ decimal a.1)) (loose_value d)) (refuse_if (tls && (is_some d.section || is_macho format)) (backend TlsPlace)) (zero_byte (unwrap_or d.section [])) (section_cause format d.contents d.section)
 described format tls d h = seven_none _ _ _ _ _ _ _ h
 
 map_none : {A B : Type 0} (f : A → B) (o : Option A) → option_map f o ≡ None → o ≡ None
@@ -192,15 +198,42 @@ described_range format defined id d objects h =
 pub judged_in_hand : (target : Target) (d : Description) (size : Option ℕ) (relocs : List ModuleReloc) → size ≡ bytes_in (unwrap_or d.contents (bytes [])) → relocs ≡ relocs_of d → bad_reloc_from target size [] relocs ≡ bad_reloc_from target (bytes_in (unwrap_or d.contents (bytes []))) [] (relocs_of d)
 judged_in_hand target d size relocs e f = rw (e, f) refl
 
+beside_true : (a b : Bool) → (a && (b || true)) ≡ false → a ≡ false
+beside_true true true h = absurd (cc)
+beside_true true false h = absurd (cc)
+beside_true false b h = refl
+
+data_placed : (format : BinaryFormat) (objects : List DataRow) (id : ℕ) (section : Option (List ℕ)) (row : DataRow) → slice_get objects id ≡ Some row → (row.tls && (is_some section || is_macho format)) ≡ false → HasPlaceIn format objects (Data id)
+data_placed Elf objects id section row e h = tt
+data_placed Coff objects id section row e h = tt
+data_placed Macho objects id section row e h = rw e (ap Some (beside_true row.tls (is_some section) h))
+data_placed Wasm objects id section row e h = tt
+data_placed Unknown objects id section row e h = tt
+
+-- what an accepted description defines has a place in the format
+pub described_placed : (format : BinaryFormat) (defined : Bool) (id : ℕ) (desc : Description) (objects : List DataRow) → undefinable_data format defined id desc (slice_get objects id) ≡ None → HasPlaceIn format objects (Data id)
+described_placed format defined id desc objects free =
+    let row = object_row defined id (slice_get objects id) (first_none (undefinable_object defined id (slice_get objects id)) (description_cause format (is_thread_local (slice_get objects id)) desc) free).0 in
+    let none = described format (is_thread_local (slice_get objects id)) desc (description_none format defined id desc objects free) in
+    let test : Bool = is_thread_local (slice_get objects id) && (is_some desc.section || is_macho format) in
+    let out : test ≡ false = not_refused test (backend TlsPlace) none.fifth in
+    let here : is_thread_local (slice_get objects id) ≡ row.0.tls = ap is_thread_local row.1 in
+    data_placed format objects id desc.section row.0 row.1 (sym (ap (λ (tls : Bool). tls && (is_some desc.section || is_macho format)) here) ∙ out)
+
+section_held : (format : BinaryFormat) (contents : Option Contents) (section : Option (List ℕ)) → refuse_if (is_none contents) (backend NoContents) ≡ None → section_cause format contents section ≡ None → section_cause format (Some (unwrap_or contents (bytes []))) section ≡ None
+section_held format None section given h = absurd (cc)
+section_held format (Some contents) section given h = h
+
 -- what holds of an accepted definition of a data object
-pub data_body : (target : Target) (functions count id : ℕ) (desc : Description) (format : BinaryFormat) (defined : Bool) (objects rows : List DataRow) (d : Definition) → definition_made rows (define_data id desc) ≡ Some d → undefinable_data format defined id desc (slice_get objects id) ≡ None → id < count
+pub data_body : (target : Target) (functions count id : ℕ) (desc : Description) (format : BinaryFormat) (defined : Bool) (objects rows : List DataRow) (d : Definition) → format ≡ target.triple.binary_format → definition_made rows (define_data id desc) ≡ Some d → undefinable_data format defined id desc (slice_get objects id) ≡ None → id < count
     → bad_reloc_from target (bytes_in (unwrap_or desc.contents (bytes []))) [] (relocs_of desc) ≡ None → size_of d.contents < 2 ^ 64 → (d.identifier ≡ Data id) × IsBody target functions count d
-data_body target functions count id desc format defined objects rows d made free below judged sized =
+data_body target functions count id desc format defined objects rows d same made free below judged sized =
     let none = described format (is_thread_local (slice_get objects id)) desc (description_none format defined id desc objects free) in
     let good = not_refused (is_bad_align (unwrap_or desc.align 1)) (backend (BadAlign (unwrap_or desc.align 1))) none.second in
+    let section = subst (λ (f : BinaryFormat). section_cause f (Some (unwrap_or desc.contents (bytes []))) desc.section ≡ None) same (section_held format desc.contents desc.section none.first none.seventh) in
     let is : record { identifier = Data id; contents = unwrap_or desc.contents (bytes []); align = unwrap_or desc.align 1; relocs = relocs_of desc; section = desc.section; used = desc.used; writable = is_writable (slice_get rows id) } ≡ d = cc in (
       sym (ap (λ (x : Definition). x.identifier) is),
-      subst (λ (x : Definition). size_of x.contents < 2 ^ 64 → IsBody target functions count x) is (λ small. record { declared = below; sized = small; aligned = good; judged = judged; text = none.sixth; plain = tt }) sized,
+      subst (λ (x : Definition). size_of x.contents < 2 ^ 64 → IsBody target functions count x) is (λ small. record { declared = below; sized = small; aligned = good; judged = judged; text = none.sixth; section = section; plain = tt }) sized,
     )
 
 -- -- declarations

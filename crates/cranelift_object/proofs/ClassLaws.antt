@@ -6,8 +6,10 @@ use Rattle.std.proofs.lemmas.Bool.{cases_Bool}
 use Rattle.std.proofs.lemmas.List.Folds.{list_any-append}
 use Rattle.std.proofs.lemmas.List.Elements.{All-weaker, All-nil, All-push, All-cons, All-head, All-tail, All-map, All-get_or}
 use Rattle.std.proofs.lemmas.Option.{get_or_from_slice_get, slice_get_within}
-use Rattle.std.specs.Prelude.{slice_get}
+use Rattle.std.specs.Prelude.{slice_get, Result, Ok, Err}
 use Rattle.std.specs.List.{list_any, position_or_len, All}
+use Rattle.ir_core.specs.declared.target.BinaryFormat.{BinaryFormat}
+use Rattle.ir_core.specs.declared.target.BinaryFormat.TheVariants.{Elf, Coff, Macho, Wasm, Unknown}
 use Rattle.ir_core.specs.Moments.{Moment, moments}
 use Rattle.ir_core.proofs.MomentLaws.{map_moments-end, once_each-end, by_end}
 use Rattle.object_core.specs.declared.kinds.StandardSection.{StandardSection}
@@ -17,10 +19,12 @@ use Rattle.cranelift_module.specs.declared.identifiers.FuncOrDataId.TheVariants.
 use Rattle.cranelift_object.specs.Kept.{IsPlainBody}
 use Rattle.object_core.specs.Standard.{standard_place, is_same_shared}
 use Rattle.object_core.specs.Places.{Extent}
+use Rattle.cranelift_module.specs.declared.error.SectionFault.{SectionFault}
+use Rattle.cranelift_module.specs.SectionText.{SectionText, section_text}
 use Rattle.cranelift_module.specs.Definitions.{Definition}
 use Rattle.cranelift_module.specs.LinkState.{LinkState}
 use Rattle.cranelift_object.specs.Settings.{Settings}
-use Rattle.cranelift_object.specs.SectionClass.{Class, section_class, class_by_text, standard_class, standard_section, has_own_section}
+use Rattle.cranelift_object.specs.SectionClass.{Class, section_class, class_by_text, standard_class, standard_class_in, standard_section, has_own_section, asked_class, custom_class, marks_section}
 use Rattle.cranelift_object.specs.Placing.{Placed, share, sections_used, section_number, number_of, standing_in, placed_at, extent_of}
 use Rattle.cranelift_object.specs.Partial.{placed_of}
 use Rattle.cranelift_object.specs.Linked.{members}
@@ -192,18 +196,37 @@ All-slice_get P xs k x all at = subst P (get_or_from_slice_get xs k x x at) (All
 -- -- the class of a section
 
 -- a class that others may share is the plain one of its standard section
-abbrev pub IsShareable : Class → Type 0
-IsShareable c = (standard : StandardSection) → c.shared ≡ Some standard → c ≡ standard_class standard false false
+abbrev pub IsShareable : BinaryFormat → Class → Type 0
+IsShareable format c = (standard : StandardSection) → c.shared ≡ Some standard → c ≡ standard_class_in format standard false false
 
-shareable_own : (std : StandardSection) (own used : Bool) → (own ≡ false → used ≡ false) → IsShareable (standard_class std own used)
-shareable_own std true used h standard e = absurd (cc)
-shareable_own std false used h standard e =
+shareable_own : (std : StandardSection) (own used : Bool) (standard : StandardSection) → (own ≡ false → used ≡ false) → (standard_class std own used).shared ≡ Some standard → standard_class std own used ≡ standard_class standard false false
+shareable_own std true used standard h e = absurd (cc)
+shareable_own std false used standard h e =
     let same : std ≡ standard = cc in
     rw (same, h refl) refl
 
-shareable_text : (settings : Settings) (s : LinkState) (d : Definition) (text : Option (List ℕ)) → (has_own_section settings d d.identifier ≡ false → d.used ≡ false) → IsShareable (class_by_text settings s d text)
-shareable_text settings s d (Some text) h standard e = absurd (cc)
-shareable_text settings s d None h standard e = shareable_own (standard_section s d d.identifier) (has_own_section settings d d.identifier) d.used h standard e
+shareable_in : (format : BinaryFormat) (std : StandardSection) (own used : Bool) → (own ≡ false → used ≡ false) → IsShareable format (standard_class_in format std own used)
+shareable_in Elf std own used h standard e = shareable_own std own used standard h e
+shareable_in Coff std own used h standard e = shareable_own std own used standard h e
+shareable_in Macho std own used h standard e =
+    let same : std ≡ standard = cc in
+    rw same refl
+shareable_in Wasm std own used h standard e = shareable_own std own used standard h e
+shareable_in Unknown std own used h standard e = shareable_own std own used standard h e
+
+asked_alone : (d : Definition) (retain : Bool) (text : List ℕ) (asked : Result SectionText SectionFault) → (asked_class d retain text asked).shared ≡ None
+asked_alone d retain text (Ok asked) = refl
+asked_alone d retain text (Err fault) = refl
+
+-- a section under a text is shared with nothing
+pub custom_alone : (format : BinaryFormat) (text : List ℕ) (d : Definition) → (custom_class format text d).shared ≡ None
+custom_alone format text d = asked_alone d (marks_section format d.used) text (section_text format text)
+
+shareable_text : (settings : Settings) (s : LinkState) (d : Definition) (text : Option (List ℕ)) → (has_own_section settings d d.identifier ≡ false → d.used ≡ false) → IsShareable s.target.triple.binary_format (class_by_text settings s d text)
+shareable_text settings s d (Some text) h standard e =
+    let alone = custom_alone s.target.triple.binary_format text d in
+    absurd (let k : None ≡ Some standard = sym alone ∙ e in cc)
+shareable_text settings s d None h standard e = shareable_in s.target.triple.binary_format (standard_section s d d.identifier) (has_own_section settings d d.identifier) d.used h standard e
 
 second_false : (a b : Bool) → (a || b) ≡ false → b ≡ false
 second_false true b h = absurd (cc)
@@ -214,25 +237,43 @@ alone_used settings d (Func k) plain h = plain.2
 alone_used settings d (Data k) plain h = second_false settings.data_sections d.used h
 
 -- the class of a definition is one
-pub shareable : (settings : Settings) (s : LinkState) (d : Definition) → IsPlainBody d.identifier d.contents d.section d.used → IsShareable (section_class settings s d)
+pub shareable : (settings : Settings) (s : LinkState) (d : Definition) → IsPlainBody d.identifier d.contents d.section d.used → IsShareable s.target.triple.binary_format (section_class settings s d)
 shareable settings s d plain = shareable_text settings s d d.section (alone_used settings d d.identifier plain)
 
-retain_text : (settings : Settings) (s : LinkState) (d : Definition) (text : Option (List ℕ)) → (class_by_text settings s d text).retain ≡ d.used
-retain_text settings s d None = refl
-retain_text settings s d (Some text) = refl
+asked_retain : (d : Definition) (retain : Bool) (text : List ℕ) (asked : Result SectionText SectionFault) → (asked_class d retain text asked).retain ≡ retain
+asked_retain d retain text (Ok asked) = refl
+asked_retain d retain text (Err fault) = refl
 
--- the linker keeps the section of what is used
-pub retain_is : (settings : Settings) (s : LinkState) (d : Definition) → (section_class settings s d).retain ≡ d.used
+standard_retain : (format : BinaryFormat) (standard : StandardSection) (own used : Bool) → (standard_class_in format standard own used).retain ≡ marks_section format used
+standard_retain Elf standard own used = refl
+standard_retain Coff standard own used = refl
+standard_retain Macho standard own used = refl
+standard_retain Wasm standard own used = refl
+standard_retain Unknown standard own used = refl
+
+retain_text : (settings : Settings) (s : LinkState) (d : Definition) (text : Option (List ℕ)) → (class_by_text settings s d text).retain ≡ marks_section s.target.triple.binary_format d.used
+retain_text settings s d None = standard_retain s.target.triple.binary_format (standard_section s d d.identifier) (has_own_section settings d d.identifier) d.used
+retain_text settings s d (Some text) = asked_retain d (marks_section s.target.triple.binary_format d.used) text (section_text s.target.triple.binary_format text)
+
+-- the linker keeps the section of what is used, where the format says it of sections
+pub retain_is : (settings : Settings) (s : LinkState) (d : Definition) → (section_class settings s d).retain ≡ marks_section s.target.triple.binary_format d.used
 retain_is settings s d = retain_text settings s d d.section
 
-used_alone : (settings : Settings) (s : LinkState) (d : Definition) → IsPlainBody d.identifier d.contents d.section d.used → (shared : Option StandardSection) → (section_class settings s d).shared ≡ shared → d.used ≡ true → shared ≡ None
-used_alone settings s d plain None e used = refl
-used_alone settings s d plain (Some standard) e used =
-    absurd (let k : false ≡ true = sym (ap (λ (c : Class). c.retain) (shareable settings s d plain standard e)) ∙ retain_is settings s d ∙ used in cc)
+plain_retain : (format : BinaryFormat) (standard : StandardSection) → (standard_class_in format standard false false).retain ≡ false
+plain_retain Elf standard = refl
+plain_retain Coff standard = refl
+plain_retain Macho standard = refl
+plain_retain Wasm standard = refl
+plain_retain Unknown standard = refl
 
--- what is used shares its section with nothing
-pub used_unshared : (settings : Settings) (s : LinkState) (d : Definition) → IsPlainBody d.identifier d.contents d.section d.used → d.used ≡ true → (section_class settings s d).shared ≡ None
-used_unshared settings s d plain used = used_alone settings s d plain (section_class settings s d).shared refl used
+retained_alone : (settings : Settings) (s : LinkState) (d : Definition) → IsPlainBody d.identifier d.contents d.section d.used → (shared : Option StandardSection) → (section_class settings s d).shared ≡ shared → (section_class settings s d).retain ≡ true → shared ≡ None
+retained_alone settings s d plain None e marked = refl
+retained_alone settings s d plain (Some standard) e marked =
+    absurd (let k : false ≡ true = sym (ap (λ (c : Class). c.retain) (shareable settings s d plain standard e) ∙ plain_retain s.target.triple.binary_format standard) ∙ marked in cc)
+
+-- a section that the linker keeps is shared with nothing
+pub retained_unshared : (settings : Settings) (s : LinkState) (d : Definition) → IsPlainBody d.identifier d.contents d.section d.used → (section_class settings s d).retain ≡ true → (section_class settings s d).shared ≡ None
+retained_unshared settings s d plain marked = retained_alone settings s d plain (section_class settings s d).shared refl marked
 
 same_standard : (a b : StandardSection) → standard_place a ≡ standard_place b → a ≡ b
 same_standard Text Text h = refl
@@ -285,11 +326,11 @@ same_standard UninitializedTls ReadOnlyDataWithRel h = absurd (omega arith)
 same_standard UninitializedTls UninitializedData h = absurd (omega arith)
 same_standard UninitializedTls Tls h = absurd (omega arith)
 
-shared_alike : (c x : Class) (a b : Option StandardSection) → IsShareable c → IsShareable x → c.shared ≡ a → x.shared ≡ b → is_same_shared a b ≡ true → c ≡ x
-shared_alike c x None b h k e f same = absurd (cc)
-shared_alike c x (Some a) None h k e f same = absurd (cc)
-shared_alike c x (Some a) (Some b) h k e f same =
-    h a e ∙ ap (λ (standard : StandardSection). standard_class standard false false) (same_standard a b (equal (standard_place a) (standard_place b) same)) ∙ sym (k b f)
+shared_alike : (format : BinaryFormat) (c x : Class) (a b : Option StandardSection) → IsShareable format c → IsShareable format x → c.shared ≡ a → x.shared ≡ b → is_same_shared a b ≡ true → c ≡ x
+shared_alike format c x None b h k e f same = absurd (cc)
+shared_alike format c x (Some a) None h k e f same = absurd (cc)
+shared_alike format c x (Some a) (Some b) h k e f same =
+    h a e ∙ ap (λ (standard : StandardSection). standard_class_in format standard false false) (same_standard a b (equal (standard_place a) (standard_place b) same)) ∙ sym (k b f)
 
 found_from : {A : Type 0} (test : A → Bool) (x : A) (xs : List A) (b : Bool) → test x ≡ b → (list_any test xs ≡ true → (y : A) × (slice_get xs (position_or_len test xs) ≡ Some y) × (test y ≡ true)) → (b || list_any test xs) ≡ true
     → (y : A) × (slice_get (x ∷ xs) (cond (not b) (1 + position_or_len test xs) 0) ≡ Some y) × (test y ≡ true)
@@ -308,23 +349,23 @@ get_last : {A : Type 0} (xs : List A) (x : A) → slice_get (xs ++ x ∷ []) (le
 get_last [] x = refl
 get_last (y ∷ xs) x = get_last xs x
 
-class_known : (cs : List Class) (c : Class) → All IsShareable cs → IsShareable c → list_any (share c) cs ≡ true → slice_get (sections_used (cs ++ c ∷ [])) (section_number cs c) ≡ Some c
+class_known : (format : BinaryFormat) (cs : List Class) (c : Class) → All (IsShareable format) cs → IsShareable format c → list_any (share c) cs ≡ true → slice_get (sections_used (cs ++ c ∷ [])) (section_number cs c) ≡ Some c
 unfolding section_number
-class_known cs c all here e =
+class_known format cs c all here e =
     let found = found_place (share c) (sections_used cs) (any_used c cs ∙ e) in
     let x = found.0 in
-    let one : IsShareable x = All-slice_get IsShareable (sections_used cs) (position_or_len (share c) (sections_used cs)) x (used_all IsShareable cs all) found.1 in
-    let same : c ≡ x = shared_alike c x c.shared x.shared here one refl refl found.2 in
+    let one : IsShareable format x = All-slice_get (IsShareable format) (sections_used cs) (position_or_len (share c) (sections_used cs)) x (used_all (IsShareable format) cs all) found.1 in
+    let same : c ≡ x = shared_alike format c x c.shared x.shared here one refl refl found.2 in
     rw (used-end cs c, e, append-nil) (found.1 ∙ ap Some (sym same))
 
 class_new : (cs : List Class) (c : Class) → list_any (share c) cs ≡ false → slice_get (sections_used (cs ++ c ∷ [])) (section_number cs c) ≡ Some c
 class_new cs c e = rw (number_new cs c e, used-end cs c, e) (get_last (sections_used cs) c)
 
 -- a section in use has the class of each of its definitions
-pub class_there : (cs : List Class) (c : Class) → All IsShareable cs → IsShareable c → slice_get (sections_used (cs ++ c ∷ [])) (section_number cs c) ≡ Some c
-class_there cs c all here =
+pub class_there : (format : BinaryFormat) (cs : List Class) (c : Class) → All (IsShareable format) cs → IsShareable format c → slice_get (sections_used (cs ++ c ∷ [])) (section_number cs c) ≡ Some c
+class_there format cs c all here =
     elim (cases_Bool (list_any (share c) cs)) [
-      | inl e ↦ class_known cs c all here e
+      | inl e ↦ class_known format cs c all here e
       | inr e ↦ class_new cs c e
     ]
 
@@ -345,15 +386,15 @@ class_none : (settings : Settings) (s : LinkState) → All (StandsInClass settin
 unfolding moments
 class_none settings s = All-nil (StandsInClass settings s [])
 
-class_more : (settings : Settings) (s : LinkState) (ds : List Definition) (d : Definition) → All (StandsInClass settings s ds) (placed_of settings s ds) → All (λ (x : Definition). IsShareable (section_class settings s x)) (ds ++ d ∷ []) → All (StandsInClass settings s (ds ++ d ∷ [])) (placed_of settings s (ds ++ d ∷ []))
+class_more : (settings : Settings) (s : LinkState) (ds : List Definition) (d : Definition) → All (StandsInClass settings s ds) (placed_of settings s ds) → All (λ (x : Definition). IsShareable s.target.triple.binary_format (section_class settings s x)) (ds ++ d ∷ []) → All (StandsInClass settings s (ds ++ d ∷ [])) (placed_of settings s (ds ++ d ∷ []))
 class_more settings s ds d h all =
     let class : Definition → Class = section_class settings s in
-    let fronts = All-map IsShareable class ds (All-front (λ (x : Definition). IsShareable (class x)) ds d all) in
-    let here : StandsInClass settings s (ds ++ d ∷ []) (placed_at settings s (record { before = ds; here = d })) = rw map-append (class_there (map class ds) (class d) fronts (All-last (λ (x : Definition). IsShareable (class x)) ds d all)) in
+    let fronts = All-map (IsShareable s.target.triple.binary_format) class ds (All-front (λ (x : Definition). IsShareable s.target.triple.binary_format (class x)) ds d all) in
+    let here : StandsInClass settings s (ds ++ d ∷ []) (placed_at settings s (record { before = ds; here = d })) = rw map-append (class_there s.target.triple.binary_format (map class ds) (class d) fronts (All-last (λ (x : Definition). IsShareable s.target.triple.binary_format (class x)) ds d all)) in
     let before = All-weaker (StandsInClass settings s ds) (StandsInClass settings s (ds ++ d ∷ [])) (λ p e. rw map-append (class_stays (map class ds) (class d) (class p.definition) p.section e)) (placed_of settings s ds) h in
     rw (placed_of-end settings s ds d) (All-push (StandsInClass settings s (ds ++ d ∷ [])) (placed_of settings s ds) (placed_at settings s (record { before = ds; here = d })) before here)
 
-pub placed_class : (settings : Settings) (s : LinkState) (ds : List Definition) → All (λ (x : Definition). IsShareable (section_class settings s x)) ds → All (λ (p : Placed). slice_get (sections_used (map (section_class settings s) ds)) p.section ≡ Some (section_class settings s p.definition)) (placed_of settings s ds)
+pub placed_class : (settings : Settings) (s : LinkState) (ds : List Definition) → All (λ (x : Definition). IsShareable s.target.triple.binary_format (section_class settings s x)) ds → All (λ (p : Placed). slice_get (sections_used (map (section_class settings s) ds)) p.section ≡ Some (section_class settings s p.definition)) (placed_of settings s ds)
 placed_class settings s =
-    by_end (λ ds. All (λ (x : Definition). IsShareable (section_class settings s x)) ds → All (StandsInClass settings s ds) (placed_of settings s ds)) (λ all. class_none settings s)
-    (λ ds d h all. class_more settings s ds d (h (All-front (λ (x : Definition). IsShareable (section_class settings s x)) ds d all)) all)
+    by_end (λ ds. All (λ (x : Definition). IsShareable s.target.triple.binary_format (section_class settings s x)) ds → All (StandsInClass settings s ds) (placed_of settings s ds)) (λ all. class_none settings s)
+    (λ ds d h all. class_more settings s ds d (h (All-front (λ (x : Definition). IsShareable s.target.triple.binary_format (section_class settings s x)) ds d all)) all)

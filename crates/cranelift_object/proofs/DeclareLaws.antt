@@ -6,6 +6,7 @@ use Rattle.std.proofs.lemmas.List.Elements.{All-cons, All-head, All-tail, All-ni
 use Rattle.std.proofs.lemmas.Slice.Eq.{bytes_eq-Decides}
 use Rattle.std.specs.List.{All, list_any, position_from}
 use Rattle.ir_core.specs.Signature.{SignatureData}
+use Rattle.ir_core.specs.declared.target.BinaryFormat.{BinaryFormat}
 use Rattle.cranelift_module.specs.declared.linkage.Linkage.{Linkage}
 use Rattle.cranelift_module.specs.declared.identifiers.FuncOrDataId.{FuncOrDataId}
 use Rattle.cranelift_module.specs.declared.identifiers.FuncOrDataId.TheVariants.{Func, Data}
@@ -15,8 +16,9 @@ use Rattle.cranelift_module.specs.Declarations.{DeclarationLists}
 use Rattle.cranelift_module.specs.LinkState.{LinkState, step, with_first, is_function_named, is_data_named, raised_function, raised_data}
 use Rattle.cranelift_module.specs.Refusal.{zero_byte}
 use Rattle.cranelift_object.specs.Opened.{OpenModule}
-use Rattle.cranelift_object.specs.Kept.{IsModule, IsName, Marks}
+use Rattle.cranelift_object.specs.Kept.{IsModule, IsName, Marks, HasPlaceIn}
 use Rattle.cranelift_object.proofs.KeptLaws.{kept_more, kept_raised, kept_more_data, kept_raised_data}
+use Rattle.cranelift_object.proofs.PlaceInLaws.{placed_first}
 
 -- -- lists whose first element that passes is changed, or that get a new one
 
@@ -186,7 +188,10 @@ declare_known_data o marks lists name linkage writable tls k h free e at other =
     let known = is_known_row (is_data_named name) (raised_data linkage writable) row rows k (own_object_name name linkage writable tls) (found_object o.state lists name linkage writable tls k e at) (λ q. other (q ∙ sym h.marked_objects)) in
     let same = ap (λ (l : DeclarationLists). length l.objects) e ∙ length_known (is_data_named name) (raised_data linkage writable) row rows known in
     let names = all_first (λ (r : DataRow). IsName r.name) (is_data_named name) (raised_data linkage writable) row rows (λ y p. p) free h.object_names in
-    kept_raised_data o marks lists h same (rw e names) (ap (λ (l : DeclarationLists). l.functions) e)
+    let format : BinaryFormat = o.state.target.triple.binary_format in
+    let places : (id : FuncOrDataId) → HasPlaceIn format rows id → HasPlaceIn format lists.objects id = λ id p.
+    rw e (placed_first format (is_data_named name) (raised_data linkage writable) row rows id (λ y. refl) p) in
+    kept_raised_data o marks lists h same (rw e names) places (ap (λ (l : DeclarationLists). l.functions) e)
 
 -- a module after a declaration that noted its data object where it is new
 pub declare_noted_data : (o : OpenModule) (marks : Marks) (noted : List Bool) (lists : DeclarationLists) (created : List FuncOrDataId) (name : List ℕ) (linkage : Linkage) (writable tls : Bool) (k : ℕ) → IsModule o marks → zero_byte name ≡ None → length o.state.objects < 4294967295

@@ -6,7 +6,7 @@ use Rattle.std.proofs.lemmas.List.Sums.{sum_by-le}
 use Rattle.std.proofs.lemmas.Bool.{ltb-false}
 use Rattle.std.proofs.lemmas.Bool.Decides.{leb_tells}
 use Rattle.std.proofs.lemmas.Option.{slice_get_within, get_or_from_slice_get, slice_get-get_or, slice_get-map}
-use Rattle.std.specs.Prelude.{slice_get, option_map, find, sum_by, nat_lt}
+use Rattle.std.specs.Prelude.{slice_get, option_map, find, sum_by, nat_lt, Result, Ok, Err, ◌%◌, ◌==◌}
 use Rattle.std.specs.List.{All, list_any, range_with_len, enumerate_from}
 use Rattle.std.specs.Int.{is_power_of_two}
 use Rattle.std.proofs.Math.Nat.{mul-le-mul_right}
@@ -16,13 +16,16 @@ use Rattle.ir_core.specs.Target.{symbol_alignment}
 use Rattle.ir_core.specs.declared.target.Architecture.{Architecture}
 use Rattle.ir_core.specs.declared.target.Architecture.TheVariants.{X86_32, X86_64, Arm, Aarch64, Riscv64, S390x}
 use Rattle.ir_core.specs.declared.target.BinaryFormat.{BinaryFormat}
-use Rattle.ir_core.specs.declared.target.BinaryFormat.TheVariants.{Elf}
+use Rattle.ir_core.specs.declared.target.BinaryFormat.TheVariants.{Elf, Coff, Macho, Wasm, Unknown}
+use Rattle.ir_core.specs.MachO.{is_zero_fill_type}
 use Rattle.object_core.specs.declared.kinds.SectionKind.{SectionKind}
 use Rattle.object_core.specs.declared.kinds.SectionKind.TheVariants as kind
-use Rattle.object_core.specs.Standard.{is_zero_fill, takes_no_bytes, standard_kind}
+use Rattle.object_core.specs.declared.kinds.StandardSection.{StandardSection}
+use Rattle.object_core.specs.declared.kinds.StandardSection.TheVariants.{Text, Data as DataSection, ReadOnlyData, ReadOnlyDataWithRel, UninitializedData, Tls, UninitializedTls}
+use Rattle.object_core.specs.Standard.{is_zero_fill, takes_no_bytes, standard_kind, mach_flags, is_standard_in}
 use Rattle.object_core.specs.Places.{end_of}
 use Rattle.object_core.specs.declared.kinds.SymbolSection.TheVariants.{Undefined}
-use Rattle.object_core.specs.Object.{SymbolData, ObjectData}
+use Rattle.object_core.specs.Object.{SymbolData, SectionData, ObjectData}
 use Rattle.object_core.specs.Appending.{with_symbol, file_symbol, IsUndefined, is_unstored, next_offset, room_in}
 use Rattle.cranelift_module.specs.declared.identifiers.FuncOrDataId.{FuncOrDataId}
 use Rattle.cranelift_module.specs.declared.identifiers.FuncOrDataId.TheVariants.{Func, Data}
@@ -30,20 +33,24 @@ use Rattle.cranelift_module.specs.Call.{Contents, bytes, zeros}
 use Rattle.cranelift_module.specs.Rows.{FunctionRow, DataRow}
 use Rattle.cranelift_module.specs.Definitions.{Definition, size_of, is_thread_local}
 use Rattle.cranelift_module.specs.LinkState.{LinkState}
-use Rattle.cranelift_module.specs.Refusal.{is_same_identifier, is_defined, is_bad_align}
+use Rattle.cranelift_module.specs.declared.error.SectionFault.{SectionFault}
+use Rattle.cranelift_module.specs.declared.error.BackendCause.TheVariants.{ZerofillBytes}
+use Rattle.cranelift_module.specs.SectionText.{SectionText, section_text}
+use Rattle.cranelift_module.specs.Refusal.{is_same_identifier, is_defined, is_bad_align, are_bytes, text_cause, section_cause, backend}
 use Rattle.cranelift_object.specs.Settings.{Settings}
 use Rattle.cranelift_object.specs.Opened.{OpenModule}
-use Rattle.cranelift_object.specs.Kept.{IsModule, IsBody, IsPlainBody, AreBytes, IsDeclared, IsFirst, Marks}
-use Rattle.cranelift_object.specs.SectionClass.{section_class, class_by_text, standard_section, data_section, initialized_section, is_empty_list, is_counted, are_counted}
+use Rattle.cranelift_object.specs.Kept.{IsModule, IsBody, IsDeclared, IsFirst, Marks, IsPlain, HasPlaceIn}
+use Rattle.cranelift_object.specs.SectionClass.{Class, section_class, class_by_text, standard_class_in, standard_section, has_own_section, data_section, initialized_section, is_empty_list, custom_kind, own_class, asked_class, marks_section}
 use Rattle.cranelift_object.specs.Placing.{Placed, sections_used, align_of, extent_of, standing_in}
 use Rattle.cranelift_object.specs.Linked as linked
-use Rattle.cranelift_object.specs.Linked.{defined_at, identifier_symbol, function_symbol, data_symbol, object_of, object_relocation, is_unstored_class}
+use Rattle.cranelift_object.specs.Linked.{defined_at, identifier_symbol, function_symbol, data_symbol, object_of, object_relocation, is_unstored_class, marks_symbol}
 use Rattle.cranelift_object.specs.Partial.{placed_of, partial, opened, number_behind}
 use Rattle.cranelift_object.proofs.ChangeLaws.{changed_length}
 use Rattle.cranelift_object.proofs.ClassLaws.{placed_definitions, IsShareable, shareable, All-slice_get}
+use Rattle.cranelift_object.proofs.CallLaws.{not_refused}
 use Rattle.cranelift_object.proofs.PlaceLaws.{asked, align_over, align_positive, standing_within}
 use Rattle.cranelift_object.proofs.FirstCause.{row_at}
-use Rattle.cranelift_object.specs.Product.{begun_object, function_mark, function_marks, data_mark, data_marks, symbol_number, product_of, with_class, class_place, with_symbol_contents, with_relocations}
+use Rattle.cranelift_object.specs.Product.{begun_object, function_mark, function_marks, data_mark, data_marks, symbol_number, product_of, with_class, class_place, with_symbol_contents, with_kept, with_relocations}
 use Rattle.cranelift_object.proofs.OpenLaws.{opened_class, number_class}
 use Rattle.cranelift_object.specs.Marking.{with_symbols, functions_in, data_in, marks_of_functions, marks_of_objects}
 use Rattle.cranelift_object.proofs.CreationLaws.{function_stands, data_stands, place_is, places_apart, functions_in-append, data_in-append, functions_numbered, data_numbered, function_within, data_within}
@@ -123,14 +130,44 @@ front_more xs j x at = take_more xs j x (slice_get_within xs j x at) ∙ ap (λ 
 pub body_at : (o : OpenModule) (marks : Marks) (j : ℕ) (d : Definition) → IsModule o marks → slice_get o.state.definitions j ≡ Some d → IsBody o.state.target (length o.state.functions) (length o.state.objects) d
 body_at o marks j d h at = All-slice_get (IsBody o.state.target (length o.state.functions) (length o.state.objects)) o.state.definitions j d h.bodies at
 
-body_shareable : (o : OpenModule) (d : Definition) → IsBody o.state.target (length o.state.functions) (length o.state.objects) d → IsShareable (section_class o.settings o.state d)
+body_shareable : (o : OpenModule) (d : Definition) → IsBody o.state.target (length o.state.functions) (length o.state.objects) d → IsShareable o.state.target.triple.binary_format (section_class o.settings o.state d)
 body_shareable o d body = shareable o.settings o.state d body.plain
 
 -- the sections of the definitions before it may be shared as their classes say
-pub before_shareable : (o : OpenModule) (marks : Marks) (j : ℕ) → IsModule o marks → All (λ (x : Definition). IsShareable (section_class o.settings o.state x)) (take j o.state.definitions)
+pub before_shareable : (o : OpenModule) (marks : Marks) (j : ℕ) → IsModule o marks → All (λ (x : Definition). IsShareable o.state.target.triple.binary_format (section_class o.settings o.state x)) (take j o.state.definitions)
 before_shareable o marks j h =
     let bodies : Definition → Type 0 = IsBody o.state.target (length o.state.functions) (length o.state.objects) in
-    All-weaker bodies (λ (x : Definition). IsShareable (section_class o.settings o.state x)) (λ x body. body_shareable o x body) (take j o.state.definitions) (All-take bodies j o.state.definitions h.bodies)
+    All-weaker bodies (λ (x : Definition). IsShareable o.state.target.triple.binary_format (section_class o.settings o.state x)) (λ x body. body_shareable o x body) (take j o.state.definitions) (All-take bodies j o.state.definitions h.bodies)
+
+-- what is defined has a place in the format
+pub place_at : (o : OpenModule) (marks : Marks) (j : ℕ) (d : Definition) → IsModule o marks → slice_get o.state.definitions j ≡ Some d → HasPlaceIn o.state.target.triple.binary_format o.state.objects d.identifier
+place_at o marks j d h at = All-slice_get (λ (x : Definition). HasPlaceIn o.state.target.triple.binary_format o.state.objects x.identifier) o.state.definitions j d h.placed at
+
+initialized_in : (writable plain : Bool) → is_standard_in Macho (initialized_section writable plain) ≡ true
+initialized_in true plain = refl
+initialized_in false true = refl
+initialized_in false false = refl
+
+plain_in : (row : Option DataRow) (d : Definition) (c : Contents) → option_map (λ (r : DataRow). r.tls) row ≡ Some false → is_standard_in Macho (data_section (is_thread_local row) d c) ≡ true
+plain_in None d c h = absurd (cc)
+plain_in (Some row) d (zeros n) h =
+    let plain : row.tls ≡ false = cc in
+    rw plain refl
+plain_in (Some row) d (bytes xs) h =
+    let plain : row.tls ≡ false = cc in
+    rw plain (initialized_in d.writable (is_empty_list d.relocs))
+
+standard_in_mach : (s : LinkState) (d : Definition) (id : FuncOrDataId) → IsPlain s.objects id → is_standard_in Macho (standard_section s d id) ≡ true
+standard_in_mach s d (Func k) h = refl
+standard_in_mach s d (Data k) h = plain_in (slice_get s.objects k) d d.contents h
+
+-- the format has the standard section of what is defined
+pub standard_is : (format : BinaryFormat) (s : LinkState) (d : Definition) → HasPlaceIn format s.objects d.identifier → is_standard_in format (standard_section s d d.identifier) ≡ true
+standard_is Elf s d h = refl
+standard_is Coff s d h = refl
+standard_is Macho s d h = standard_in_mach s d d.identifier h
+standard_is Wasm s d h = refl
+standard_is Unknown s d h = refl
 
 -- -- sections with and without bytes
 
@@ -138,40 +175,70 @@ custom_stored : (b : Bool) → is_zero_fill (cond b kind.ReadOnlyData kind.Data)
 custom_stored true = refl
 custom_stored false = refl
 
-custom_counted : (c : Contents) (text : List ℕ) → are_counted c (Some text) ≡ false
-custom_counted (bytes xs) text = refl
-custom_counted (zeros n) text = refl
-
 initialized_stored : (writable plain : Bool) → is_zero_fill (standard_kind (initialized_section writable plain)) ≡ false
 initialized_stored true plain = refl
 initialized_stored false true = refl
 initialized_stored false false = refl
 
-data_counted : (tls : Bool) (d : Definition) (c : Contents) → is_zero_fill (standard_kind (data_section tls d c)) ≡ are_counted c None
-data_counted true d (zeros n) = refl
-data_counted false d (zeros n) = refl
-data_counted true d (bytes xs) = refl
-data_counted false d (bytes xs) = initialized_stored d.writable (is_empty_list d.relocs)
+data_stored : (tls : Bool) (d : Definition) (c : Contents) → are_bytes (Some c) ≡ true → is_zero_fill (standard_kind (data_section tls d c)) ≡ false
+data_stored tls d (zeros n) h = absurd (cc)
+data_stored true d (bytes xs) h = refl
+data_stored false d (bytes xs) h = initialized_stored d.writable (is_empty_list d.relocs)
 
-bytes_counted : (c : Contents) (section : Option (List ℕ)) → AreBytes c → are_counted c section ≡ false
-bytes_counted (bytes xs) section h = refl
-bytes_counted (zeros n) section h = absurd h
+standard_stored : (s : LinkState) (d : Definition) (id : FuncOrDataId) → are_bytes (Some d.contents) ≡ true → is_zero_fill (standard_kind (standard_section s d id)) ≡ false
+standard_stored s d (Func k) h = refl
+standard_stored s d (Data k) h = data_stored (is_thread_local (slice_get s.objects k)) d d.contents h
 
-standard_counted : (s : LinkState) (d : Definition) (id : FuncOrDataId) → IsPlainBody id d.contents d.section d.used → d.section ≡ None → is_zero_fill (standard_kind (standard_section s d id)) ≡ are_counted d.contents d.section
-standard_counted s d (Func k) plain e = sym (bytes_counted d.contents d.section plain.0)
-standard_counted s d (Data k) plain e = data_counted (is_thread_local (slice_get s.objects k)) d d.contents ∙ ap (are_counted d.contents) (sym e)
+mach_stored : (standard : StandardSection) → is_zero_fill (standard_kind standard) ≡ false → is_zero_fill_type (mach_flags standard) ≡ false
+mach_stored Text h = refl
+mach_stored DataSection h = refl
+mach_stored ReadOnlyData h = refl
+mach_stored ReadOnlyDataWithRel h = refl
+mach_stored UninitializedData h = absurd (cc)
+mach_stored Tls h = refl
+mach_stored UninitializedTls h = absurd (cc)
 
-counted_by : (settings : Settings) (s : LinkState) (d : Definition) (text : Option (List ℕ)) → d.section ≡ text → IsPlainBody d.identifier d.contents d.section d.used → is_zero_fill (class_by_text settings s d text).kind ≡ are_counted d.contents d.section
-counted_by settings s d (Some text) e plain = custom_stored (not d.writable && is_empty_list d.relocs) ∙ sym (ap (are_counted d.contents) e ∙ custom_counted d.contents text)
-counted_by settings s d None e plain = standard_counted s d d.identifier plain e
+-- a class takes no bytes of a file of this format
+abbrev is_unstored_in : BinaryFormat → Class → Bool
+is_unstored_in format c = takes_no_bytes format c.kind c.macho_flags
 
-unstored_elf : (format : BinaryFormat) (k : SectionKind) (flags : ℕ) → format ≡ Elf → takes_no_bytes format k flags ≡ is_zero_fill k
-unstored_elf format k flags e = rw e refl
+class_stored : (format : BinaryFormat) (standard : StandardSection) (own used : Bool) → is_zero_fill (standard_kind standard) ≡ false → is_unstored_in format (standard_class_in format standard own used) ≡ false
+class_stored Elf standard own used h = h
+class_stored Coff standard own used h = h
+class_stored Macho standard own used h = mach_stored standard h
+class_stored Wasm standard own used h = h
+class_stored Unknown standard own used h = h
 
--- the section of a definition takes no bytes exactly where its contents are zeros under no text
-pub class_counted : (settings : Settings) (s : LinkState) (d : Definition) → s.target.triple.binary_format ≡ Elf → IsPlainBody d.identifier d.contents d.section d.used → is_unstored_class s (section_class settings s d) ≡ is_counted d
-class_counted settings s d elf plain =
-    unstored_elf s.target.triple.binary_format (section_class settings s d).kind (section_class settings s d).macho_flags elf ∙ counted_by settings s d d.section refl plain
+kind_from : (a b : Bool) (k : SectionKind) → (a || b) ≡ false → is_zero_fill (cond a kind.UninitializedData (cond b kind.UninitializedTls k)) ≡ is_zero_fill k
+kind_from true b k h = absurd (cc)
+kind_from false true k h = absurd (cc)
+kind_from false false k h = refl
+
+own_stored : (format : BinaryFormat) (d : Definition) (retain : Bool) (asked : SectionText) → is_zero_fill_type asked.flags ≡ false → is_unstored_in format (own_class d retain asked) ≡ false
+own_stored Elf d retain asked h = kind_from (asked.flags % 256 == 1) (asked.flags % 256 == 0x12) (custom_kind d) h ∙ custom_stored (not d.writable && is_empty_list d.relocs)
+own_stored Coff d retain asked h = kind_from (asked.flags % 256 == 1) (asked.flags % 256 == 0x12) (custom_kind d) h ∙ custom_stored (not d.writable && is_empty_list d.relocs)
+own_stored Macho d retain asked h = h
+own_stored Wasm d retain asked h = kind_from (asked.flags % 256 == 1) (asked.flags % 256 == 0x12) (custom_kind d) h ∙ custom_stored (not d.writable && is_empty_list d.relocs)
+own_stored Unknown d retain asked h = kind_from (asked.flags % 256 == 1) (asked.flags % 256 == 0x12) (custom_kind d) h ∙ custom_stored (not d.writable && is_empty_list d.relocs)
+
+left_false : (a b : Bool) → b ≡ true → (a && b) ≡ false → a ≡ false
+left_false true b e h = absurd (cc)
+left_false false b e h = refl
+
+asked_stored : (format : BinaryFormat) (d : Definition) (retain : Bool) (text : List ℕ) (asked : Result SectionText SectionFault) → are_bytes (Some d.contents) ≡ true → text_cause (Some d.contents) asked ≡ None → is_unstored_in format (asked_class d retain text asked) ≡ false
+asked_stored format d retain text (Ok asked) given free =
+    own_stored format d retain asked (left_false (is_zero_fill_type asked.flags) (are_bytes (Some d.contents)) given (not_refused (is_zero_fill_type asked.flags && are_bytes (Some d.contents)) (backend ZerofillBytes) free))
+asked_stored format d retain text (Err fault) given free = absurd (cc)
+
+stored_by : (settings : Settings) (s : LinkState) (d : Definition) (text : Option (List ℕ)) → are_bytes (Some d.contents) ≡ true → section_cause s.target.triple.binary_format (Some d.contents) text ≡ None → is_unstored_class s (class_by_text settings s d text) ≡ false
+stored_by settings s d None given free =
+    class_stored s.target.triple.binary_format (standard_section s d d.identifier) (has_own_section settings d d.identifier) d.used (standard_stored s d d.identifier given)
+stored_by settings s d (Some text) given free =
+    asked_stored s.target.triple.binary_format d (marks_section s.target.triple.binary_format d.used) text (section_text s.target.triple.binary_format text) given free
+
+-- bytes stand in a section that takes bytes of the file
+pub bytes_stored : (settings : Settings) (s : LinkState) (d : Definition) → are_bytes (Some d.contents) ≡ true → section_cause s.target.triple.binary_format (Some d.contents) d.section ≡ None → is_unstored_class s (section_class settings s d) ≡ false
+bytes_stored settings s d given free = stored_by settings s d d.section given free
 
 -- -- one more definition
 
@@ -179,7 +246,9 @@ class_counted settings s d elf plain =
 pub definition_step : (o : OpenModule) (marks : Marks) (j : ℕ) (d : Definition) → IsModule o marks → slice_get o.state.definitions j ≡ Some d
     → partial o.settings o.state (take (j + 1) o.state.definitions)
     ≡ with_relocations
-    (with_symbol_contents (is_counted d) (opened o.settings o.state (take j o.state.definitions) d) (symbol_number o.state d.identifier) (number_behind o.settings o.state (take j o.state.definitions) d) d.contents (align_of o.state d))
+    (with_kept (marks_symbol o.state.target.triple.binary_format d.used)
+    (with_symbol_contents (is_unstored_class o.state (section_class o.settings o.state d)) (opened o.settings o.state (take j o.state.definitions) d) (symbol_number o.state d.identifier) (number_behind o.settings o.state (take j o.state.definitions) d) d.contents (align_of o.state d))
+    (symbol_number o.state d.identifier))
     (number_behind o.settings o.state (take j o.state.definitions) d)
     (map (object_relocation o.settings o.state (next_offset (opened o.settings o.state (take j o.state.definitions) d) (number_behind o.settings o.state (take j o.state.definitions) d) (align_of o.state d))) d.relocs)
 definition_step o marks j d h at =
@@ -187,12 +256,14 @@ definition_step o marks j d h at =
     let body = body_at o marks j d h at in
     let there = created_at o marks d.identifier h body.declared in
     let n : ℕ = number_behind o.settings o.state (take j ds) d in
+    let unstored : Bool = is_unstored_class o.state (section_class o.settings o.state d) in
+    let marked : Bool = marks_symbol o.state.target.triple.binary_format d.used in
     let step =
-    partial-end (is_counted d) o.settings o.state (take j ds) d there.0 (before_shareable o marks j h) (body_shareable o d body) (class_counted o.settings o.state d h.begun.format body.plain) body.declared (undefined_before o marks j d h at) there.1
+    partial-end unstored o.settings o.state (take j ds) d there.0 (before_shareable o marks j h) (body_shareable o d body) refl body.declared (undefined_before o marks j d h at) there.1
     (λ i y found ne. created_apart o marks there.0 i y d.identifier h there.1 found ne)
     in
     ap (partial o.settings o.state) (front_more ds j d at) ∙ step
-    ∙ ap (λ (symbol : ℕ). with_relocations (with_symbol_contents (is_counted d) (opened o.settings o.state (take j ds) d) symbol n d.contents (align_of o.state d)) n (map (object_relocation o.settings o.state (next_offset (opened o.settings o.state (take j ds) d) n (align_of o.state d))) d.relocs))
+    ∙ ap (λ (symbol : ℕ). with_relocations (with_kept marked (with_symbol_contents unstored (opened o.settings o.state (take j ds) d) symbol n d.contents (align_of o.state d)) symbol) n (map (object_relocation o.settings o.state (next_offset (opened o.settings o.state (take j ds) d) n (align_of o.state d))) d.relocs))
     (sym (symbol_place o marks there.0 d.identifier h there.1))
 
 -- -- what the calls of an object ask for
@@ -200,12 +271,12 @@ definition_step o marks j d h at =
 undefined_function : (s : LinkState) (ps : List Placed) (k : ℕ) → k < length s.functions → defined_at ps (Func k) ≡ None → option_map (λ (t : SymbolData). t.section) (Some (identifier_symbol s ps (Func k))) ≡ Some Undefined
 undefined_function s ps k below none =
     let row = row_at s.functions k below in
-    ap (λ (r : Option FunctionRow). Some (function_symbol ps k r).section) row.1 ∙ ap (λ (p : Option Placed). Some (linked.symbol_place p)) none
+    ap (λ (r : Option FunctionRow). Some (function_symbol s.target.triple.binary_format ps k r).section) row.1 ∙ ap (λ (p : Option Placed). Some (linked.symbol_place p)) none
 
 undefined_data : (s : LinkState) (ps : List Placed) (k : ℕ) → k < length s.objects → defined_at ps (Data k) ≡ None → option_map (λ (t : SymbolData). t.section) (Some (identifier_symbol s ps (Data k))) ≡ Some Undefined
 undefined_data s ps k below none =
     let row = row_at s.objects k below in
-    ap (λ (r : Option DataRow). Some (data_symbol ps k r).section) row.1 ∙ ap (λ (p : Option Placed). Some (linked.symbol_place p)) none
+    ap (λ (r : Option DataRow). Some (data_symbol s.target.triple.binary_format ps k r).section) row.1 ∙ ap (λ (p : Option Placed). Some (linked.symbol_place p)) none
 
 undefined_identifier : (s : LinkState) (ps : List Placed) (id : FuncOrDataId) → IsDeclared (length s.functions) (length s.objects) id → defined_at ps id ≡ None → option_map (λ (t : SymbolData). t.section) (Some (identifier_symbol s ps id)) ≡ Some Undefined
 undefined_identifier s ps (Func k) declared none = undefined_function s ps k declared none
@@ -221,15 +292,20 @@ opened_undefined o marks j d h at =
     let there = slice_get-map (identifier_symbol o.state ps) o.state.created created.0 ∙ ap (option_map (identifier_symbol o.state ps)) created.1 in
     rw (symbol_place o marks created.0 d.identifier h created.1) (ap (option_map (λ (t : SymbolData). t.section)) there ∙ undefined_identifier o.state ps d.identifier body.declared (undefined_before o marks j d h at))
 
--- its section takes bytes or none, as its contents do
+-- its section takes bytes or none, as its class says
 pub opened_stored : (o : OpenModule) (marks : Marks) (j : ℕ) (d : Definition) → IsModule o marks → slice_get o.state.definitions j ≡ Some d
-    → option_map (is_unstored (opened o.settings o.state (take j o.state.definitions) d).format) (slice_get (opened o.settings o.state (take j o.state.definitions) d).sections (number_behind o.settings o.state (take j o.state.definitions) d)) ≡ Some (is_counted d)
+    → option_map (is_unstored (opened o.settings o.state (take j o.state.definitions) d).format) (slice_get (opened o.settings o.state (take j o.state.definitions) d).sections (number_behind o.settings o.state (take j o.state.definitions) d)) ≡ Some (is_unstored_class o.state (section_class o.settings o.state d))
 opened_stored o marks j d h at =
     let ds : List Definition = take j o.state.definitions in
     let body = body_at o marks j d h at in
     let section = opened_section o.settings o.state ds d (before_shareable o marks j h) (body_shareable o d body) in
     ap (λ (format : BinaryFormat). option_map (is_unstored format) (slice_get (opened o.settings o.state ds d).sections (number_behind o.settings o.state ds d))) (opened_format o.settings o.state ds d)
-    ∙ ap (option_map (is_unstored o.state.target.triple.binary_format)) section ∙ ap Some (class_counted o.settings o.state d h.begun.format body.plain)
+    ∙ ap (option_map (is_unstored o.state.target.triple.binary_format)) section
+
+-- so does the one in hand
+pub later_stored : (o : OpenModule) (marks : Marks) (j : ℕ) (d : Definition) (later : ObjectData) (section : ℕ) → IsModule o marks → slice_get o.state.definitions j ≡ Some d → later ≡ opened o.settings o.state (take j o.state.definitions) d
+    → section ≡ number_behind o.settings o.state (take j o.state.definitions) d → option_map (is_unstored later.format) (slice_get later.sections section) ≡ Some (is_unstored_class o.state (section_class o.settings o.state d))
+later_stored o marks j d later section h at now place = rw (now, place) (opened_stored o marks j d h at)
 
 -- its section is there
 pub opened_there : (o : OpenModule) (marks : Marks) (j : ℕ) (d : Definition) → IsModule o marks → slice_get o.state.definitions j ≡ Some d → number_behind o.settings o.state (take j o.state.definitions) d < length (opened o.settings o.state (take j o.state.definitions) d).sections
@@ -241,11 +317,11 @@ pub or_left : (a b : Bool) → (a || b) ≡ false → a ≡ false
 or_left true b h = absurd (cc)
 or_left false b h = refl
 
-or_right : (a b : Bool) → (a || b) ≡ false → b ≡ false
+pub or_right : (a b : Bool) → (a || b) ≡ false → b ≡ false
 or_right true b h = absurd (cc)
 or_right false b h = h
 
-not_false : (b : Bool) → not b ≡ false → b ≡ true
+pub not_false : (b : Bool) → not b ≡ false → b ≡ true
 not_false true h = refl
 not_false false h = absurd (cc)
 
@@ -278,15 +354,27 @@ good_least align h = zero_power align (good_power align h)
 pub align_within : (s : LinkState) (d : Definition) → is_bad_align d.align ≡ false → align_of s d ≤ 65536
 align_within s d h = let most = good_most d.align h in let other = align_most s.target.triple.architecture in omega (arith, most, other)
 
-pub room_elf : (format : BinaryFormat) (size : ℕ) → format ≡ Elf → room_in format size ≡ size
-room_elf format size e = rw e refl
+-- a definition takes as much room as its contents at least
+pub room_least : (format : BinaryFormat) (size : ℕ) → size ≤ room_in format size
+room_least Elf size = omega arith
+room_least Coff size = omega arith
+room_least Macho size = omega arith
+room_least Wasm size = omega arith
+room_least Unknown size = omega arith
+
+room_most : (format : BinaryFormat) (size : ℕ) → size < 2 ^ 64 → room_in format size < 2 ^ 64
+room_most Elf size h = h
+room_most Coff size h = h
+room_most Macho size h = omega arith
+room_most Wasm size h = h
+room_most Unknown size h = h
 
 small_room : (o : OpenModule) (marks : Marks) (d : Definition) → IsModule o marks → IsBody o.state.target (length o.state.functions) (length o.state.objects) d → asked o.state d ≤ 18446744073709617152
 small_room o marks d h body =
     let sized : size_of d.contents < 2 ^ 64 = body.sized in
-    let room = room_elf o.state.target.triple.binary_format (size_of d.contents) h.begun.format in
+    let room = room_most o.state.target.triple.binary_format (size_of d.contents) sized in
     let align = align_within o.state d body.aligned in
-    omega (arith, sized, room, align)
+    omega (arith, room, align)
 
 -- so few bytes are asked for
 pub asked_sum : (o : OpenModule) (marks : Marks) (j : ℕ) → IsModule o marks → length o.state.definitions < 2 ^ 63 → sum_by (asked o.state) (take j o.state.definitions) < 2 ^ 127 + 2 ^ 126
@@ -329,7 +417,7 @@ adding o number d below at = slice_get-get_or o.state.definitions number d below
 pub later_is : (o : OpenModule) (marks : Marks) (j : ℕ) (d : Definition) (object later : ObjectData) → IsModule o marks → slice_get o.state.definitions j ≡ Some d → object ≡ partial o.settings o.state (take j o.state.definitions) → later ≡ with_class object (section_class o.settings o.state d)
     → later ≡ opened o.settings o.state (take j o.state.definitions) d
 later_is o marks j d object later h at e f =
-    f ∙ ap (λ (x : ObjectData). with_class x (section_class o.settings o.state d)) e ∙ sym (opened_class o.settings o.state (take j o.state.definitions) d h.begun.format (body_shareable o d (body_at o marks j d h at)))
+    f ∙ ap (λ (x : ObjectData). with_class x (section_class o.settings o.state d)) e ∙ sym (opened_class o.settings o.state (take j o.state.definitions) d (body_shareable o d (body_at o marks j d h at)))
 
 pub section_is : (o : OpenModule) (j : ℕ) (d : Definition) (object : ObjectData) (section : ℕ) → object ≡ partial o.settings o.state (take j o.state.definitions) → section ≡ class_place object (section_class o.settings o.state d) → section ≡ number_behind o.settings o.state (take j o.state.definitions) d
 section_is o j d object section e f = f ∙ ap (λ (x : ObjectData). class_place x (section_class o.settings o.state d)) e ∙ number_class o.settings o.state (take j o.state.definitions) d
@@ -338,17 +426,23 @@ counted_length : (b : Bool) (o : ObjectData) (symbol section align : ℕ) (conte
 counted_length true o symbol section align contents = changed_length section _ o.sections
 counted_length false o symbol section align contents = changed_length section _ o.sections
 
+kept_sections : (marked : Bool) (o : ObjectData) (symbol : ℕ) → (with_kept marked o symbol).sections ≡ o.sections
+kept_sections true o symbol = refl
+kept_sections false o symbol = refl
+
 -- contents leave as many sections
-pub contents_sections : (b : Bool) (o left : ObjectData) (symbol section align : ℕ) (contents : Contents) → left ≡ with_symbol_contents b o symbol section contents align → length left.sections ≡ length o.sections
-contents_sections b o left symbol section align contents e = ap (λ (x : ObjectData). length x.sections) e ∙ counted_length b o symbol section align contents
+pub contents_sections : (marked b : Bool) (o left : ObjectData) (symbol section align : ℕ) (contents : Contents) → left ≡ with_kept marked (with_symbol_contents b o symbol section contents align) symbol → length left.sections ≡ length o.sections
+contents_sections marked b o left symbol section align contents e =
+    ap (λ (x : ObjectData). length x.sections) e ∙ ap (λ (xs : List SectionData). length xs) (kept_sections marked (with_symbol_contents b o symbol section contents align) symbol) ∙ counted_length b o symbol section align contents
 
 -- what the calls leave
 pub adds : (o : OpenModule) (marks : Marks) (j symbol section align offset : ℕ) (d : Definition) (later grown left : ObjectData) → IsModule o marks → slice_get o.state.definitions j ≡ Some d → later ≡ opened o.settings o.state (take j o.state.definitions) d
-    → section ≡ number_behind o.settings o.state (take j o.state.definitions) d → symbol ≡ symbol_number o.state d.identifier → align ≡ align_of o.state d → offset ≡ next_offset later section align → grown ≡ with_symbol_contents (is_counted d) later symbol section d.contents align
+    → section ≡ number_behind o.settings o.state (take j o.state.definitions) d → symbol ≡ symbol_number o.state d.identifier → align ≡ align_of o.state d → offset ≡ next_offset later section align → grown ≡ with_kept (marks_symbol later.format d.used) (with_symbol_contents (is_unstored_class o.state (section_class o.settings o.state d)) later symbol section d.contents align) symbol
     → left ≡ with_relocations grown section (map (object_relocation o.settings o.state offset) d.relocs)
     → left ≡ partial o.settings o.state (take (j + 1) o.state.definitions)
+unfolding partial opened
 adds o marks j symbol section align offset d later grown left h at now place named aligned stands holds ends =
-    ends ∙ (rw (stands, holds, now, place, named, aligned) (sym (definition_step o marks j d h at)))
+    ends ∙ (rw (stands, holds, now, opened_format o.settings o.state (take j o.state.definitions) d, place, named, aligned) (sym (definition_step o marks j d h at)))
 
 -- once all definitions are there, the object has them all
 pub all_added : (o : OpenModule) (n : ℕ) (object : ObjectData) → length o.state.definitions ≤ n → object ≡ partial o.settings o.state (take n o.state.definitions) → object ≡ partial o.settings o.state o.state.definitions

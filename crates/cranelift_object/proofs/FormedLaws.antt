@@ -5,7 +5,7 @@ use Rattle.std.proofs.lemmas.Bool.Decides.{eqb_tells}
 use Rattle.std.proofs.lemmas.List.{length-map}
 use Rattle.std.proofs.lemmas.List.Elements.{All-nil, All-cons, All-weaker, All-map, All-head, All-tail}
 use Rattle.std.proofs.lemmas.Option.{slice_get-map, slice_get_within}
-use Rattle.std.specs.Prelude.{slice_get, option_map, unwrap_or, is_some, nat_lt, find, flat_map}
+use Rattle.std.specs.Prelude.{slice_get, option_map, unwrap_or, is_some, nat_lt, find, flat_map, Result, Ok, Err}
 use Rattle.std.specs.Option.{option_or}
 use Rattle.std.specs.List.{All, list_any, position_from, position_or_len}
 use Rattle.std.specs.Fmt.{digits, digits_onto, digit_glyph, decimal}
@@ -16,13 +16,15 @@ use Rattle.ir_core.specs.MachKind.{has_kind_in}
 use Rattle.ir_core.specs.declared.reloc.Reloc.{Reloc}
 use Rattle.ir_core.specs.declared.target.Architecture.{Architecture}
 use Rattle.ir_core.specs.declared.target.BinaryFormat.{BinaryFormat}
-use Rattle.ir_core.specs.declared.target.BinaryFormat.TheVariants.{Elf}
+use Rattle.ir_core.specs.declared.target.BinaryFormat.TheVariants.{Elf, Coff, Macho, Wasm, Unknown}
 use Rattle.cranelift_module.specs.declared.error.BackendCause.TheVariants.{NulByte, UnsupportedReloc, BadReloc}
 use Rattle.cranelift_module.specs.declared.reloc.ModuleReloc.{ModuleReloc}
 use Rattle.ir_core.specs.declared.reloc.KnownSymbol.{KnownSymbol}
 use Rattle.ir_core.specs.declared.reloc.KnownSymbol.TheVariants.{ElfGlobalOffsetTable, CoffTlsIndex}
 use Rattle.cranelift_module.specs.Call.{Contents, bytes, zeros}
-use Rattle.cranelift_module.specs.Refusal.{Refusal, function_name, data_name, zero_byte, backend, refuse_if, has_kind, is_outside, is_bad_field, is_refused_in, bytes_in, reloc_cause, bad_reloc_from, is_same_identifier}
+use Rattle.cranelift_module.specs.Refusal.{Refusal, function_name, data_name, zero_byte, backend, refuse_if, has_kind, is_outside, is_bad_field, is_refused_in, bytes_in, reloc_cause, bad_reloc_from, is_same_identifier, are_bytes}
+use Rattle.cranelift_module.specs.declared.error.SectionFault.{SectionFault}
+use Rattle.cranelift_module.specs.SectionText.{SectionText, section_text}
 use Rattle.cranelift_module.specs.Definitions.{Definition, size_of}
 use Rattle.cranelift_module.specs.LinkState.{LinkState}
 use Rattle.cranelift_module.specs.Rows.{FunctionRow, DataRow}
@@ -36,11 +38,12 @@ use Rattle.object_core.specs.declared.kinds.StandardSection.TheVariants.{Text, D
 use Rattle.object_core.specs.Object.{SymbolData, SectionData, ObjectData}
 use Rattle.object_core.specs.Places.{end_of, joined}
 use Rattle.object_core.specs.Appending.{file_symbol}
-use Rattle.object_core.specs.WellFormed.{IsFormedElf, IsFormedSymbol, IsFormedRelocation, has_zero_byte, is_file}
+use Rattle.object_core.specs.WellFormed.{IsFormedElf, IsFormedSymbol, IsFormedRelocation, HasElfKind, has_zero_byte, is_file}
+use Rattle.object_core.specs.Standard.{mach_name}
 use Rattle.cranelift_object.specs.Settings.{Settings}
 use Rattle.cranelift_object.specs.Opened.{OpenModule}
 use Rattle.cranelift_object.specs.Kept.{IsModule, IsBody, IsName, Marks}
-use Rattle.cranelift_object.specs.SectionClass.{Class, section_class, class_by_text, standard_class, standard_section, has_own_section, is_counted, are_counted}
+use Rattle.cranelift_object.specs.SectionClass.{Class, section_class, class_by_text, standard_class, standard_class_in, standard_section, has_own_section, asked_class, marks_section}
 use Rattle.cranelift_object.specs.Placing.{Placed, placed, sections_used, room_of, extent_of, standing_in}
 use Rattle.cranelift_object.specs.Partial.{placed_of, partial, sections_from}
 use Rattle.cranelift_object.specs.Targets.{RelocationTarget, target_of, identifier, library, known, label, extras, is_same_target, is_extra}
@@ -49,8 +52,7 @@ use Rattle.cranelift_object.specs.Extras.{extra_target, IsFaithful, AreExtras}
 use Rattle.cranelift_object.specs.Adding.{with_added}
 use Rattle.cranelift_object.specs.declared.extras.Extra.{Extra}
 use Rattle.cranelift_object.specs.declared.extras.Extra.TheVariants.{Library, Known, Label}
-use Rattle.cranelift_object.specs.Linked.{defined_at, named_symbol, function_symbol, data_symbol, identifier_symbol, extra_symbol, label_symbol, known_symbol, section_with, members, object_of, object_relocation, row_of, piece_of, is_unstored_class}
-use Rattle.cranelift_object.specs.Product.{IsWritable}
+use Rattle.cranelift_object.specs.Linked.{defined_at, named_symbol, function_symbol, data_symbol, identifier_symbol, extra_symbol, label_symbol, known_symbol, section_with, members, object_of, object_relocation, row_of, piece_of, is_unstored_class, relocation_flags}
 use Rattle.cranelift_object.proofs.FirstCause.{row_at}
 use Rattle.cranelift_object.proofs.SectionLaws.{joined_length, relocations_at}
 use Rattle.cranelift_object.proofs.ClassLaws.{equal, placed_below, placed_definitions, placed_class, members_extents, used_all, All-slice_get, IsShareable, shareable, found_place}
@@ -62,7 +64,9 @@ use Rattle.cranelift_object.proofs.TargetLaws.{IsHad, IsReached, was_true, unmap
 use Rattle.byte_core.proofs.Lists.{get_append}
 use Rattle.cranelift_object.proofs.OpenLaws.{sections_length}
 use Rattle.cranelift_object.proofs.FinishLaws.{causes_none}
-use Rattle.cranelift_object.proofs.DefineLaws.{created_function, created_data, class_counted, room_elf, good_least, or_left}
+use Rattle.cranelift_object.proofs.DefineLaws.{created_function, created_data, bytes_stored, room_least, good_least, or_left, or_right}
+use Rattle.cranelift_object.proofs.Pairs.{All-both}
+use Rattle.cranelift_object.proofs.SectionTexts.{text_room}
 
 -- -- names
 
@@ -142,20 +146,20 @@ find_holds P test y (x ∷ xs) all h = find_holds_from P test x y xs (test x) (A
 abbrev IsWithin : ObjectData → Placed → Type 0
 IsWithin o p = (p.section < length o.sections) × (p.offset ≤ o.content_sum)
 
-formed_named : (o : ObjectData) (name : List ℕ) (linkage : Linkage) (at : Option Placed) → has_zero_byte name ≡ false → ((p : Placed) → at ≡ Some p → IsWithin o p) → IsFormedSymbol o (named_symbol name linkage kind.Text at)
-formed_named o name linkage None h within = record { name = h; place = tt; value = omega arith }
-formed_named o name linkage (Some p) h within = let inside = within p refl in record { name = h; place = inside.0; value = omega (arith, inside.1) }
+formed_named : (o : ObjectData) (format : BinaryFormat) (name : List ℕ) (linkage : Linkage) (at : Option Placed) → has_zero_byte name ≡ false → ((p : Placed) → at ≡ Some p → IsWithin o p) → IsFormedSymbol o (named_symbol format name linkage kind.Text at)
+formed_named o format name linkage None h within = record { name = h; place = tt; value = omega arith }
+formed_named o format name linkage (Some p) h within = let inside = within p refl in record { name = h; place = inside.0; value = omega (arith, inside.1) }
 
 formed_function : (o : ObjectData) (s : LinkState) (ps : List Placed) (k : ℕ) → All (λ (row : FunctionRow). IsName row.name) s.functions → All (IsWithin o) ps → k < length s.functions → IsFormedSymbol o (identifier_symbol s ps (Func k))
 formed_function o s ps k names within below =
     let row = row_at s.functions k below in
     let name = function_no_zero row.0 k (All-slice_get (λ (r : FunctionRow). IsName r.name) s.functions k row.0 names row.1) in
-    let named = formed_named o (function_name row.0 k) row.0.linkage (defined_at ps (Func k)) name (λ p h. find_holds (IsWithin o) (λ (q : Placed). is_same_identifier (Func k) q.definition.identifier) p ps within h) in
-    subst (λ (r : Option FunctionRow). IsFormedSymbol o (function_symbol ps k r)) (sym row.1) named
+    let named = formed_named o s.target.triple.binary_format (function_name row.0 k) row.0.linkage (defined_at ps (Func k)) name (λ p h. find_holds (IsWithin o) (λ (q : Placed). is_same_identifier (Func k) q.definition.identifier) p ps within h) in
+    subst (λ (r : Option FunctionRow). IsFormedSymbol o (function_symbol s.target.triple.binary_format ps k r)) (sym row.1) named
 
-formed_named_data : (o : ObjectData) (name : List ℕ) (linkage : Linkage) (tls : Bool) (at : Option Placed) → has_zero_byte name ≡ false → ((p : Placed) → at ≡ Some p → IsWithin o p) → IsFormedSymbol o (named_symbol name linkage (cond tls kind.Tls kind.Data) at)
-formed_named_data o name linkage tls at h within = formed_kind tls at within where
-  formed_kind : (tls : Bool) (at : Option Placed) → ((p : Placed) → at ≡ Some p → IsWithin o p) → IsFormedSymbol o (named_symbol name linkage (cond tls kind.Tls kind.Data) at)
+formed_named_data : (o : ObjectData) (format : BinaryFormat) (name : List ℕ) (linkage : Linkage) (tls : Bool) (at : Option Placed) → has_zero_byte name ≡ false → ((p : Placed) → at ≡ Some p → IsWithin o p) → IsFormedSymbol o (named_symbol format name linkage (cond tls kind.Tls kind.Data) at)
+formed_named_data o format name linkage tls at h within = formed_kind tls at within where
+  formed_kind : (tls : Bool) (at : Option Placed) → ((p : Placed) → at ≡ Some p → IsWithin o p) → IsFormedSymbol o (named_symbol format name linkage (cond tls kind.Tls kind.Data) at)
   formed_kind true None within = record { name = h; place = tt; value = omega arith }
   formed_kind false None within = record { name = h; place = tt; value = omega arith }
   formed_kind true (Some p) within = let inside = within p refl in record { name = h; place = inside.0; value = omega (arith, inside.1) }
@@ -165,8 +169,8 @@ formed_object : (o : ObjectData) (s : LinkState) (ps : List Placed) (k : ℕ) �
 formed_object o s ps k names within below =
     let row = row_at s.objects k below in
     let name = data_no_zero row.0 k (All-slice_get (λ (r : DataRow). IsName r.name) s.objects k row.0 names row.1) in
-    let named = formed_named_data o (data_name row.0 k) row.0.linkage row.0.tls (defined_at ps (Data k)) name (λ p h. find_holds (IsWithin o) (λ (q : Placed). is_same_identifier (Data k) q.definition.identifier) p ps within h) in
-    subst (λ (r : Option DataRow). IsFormedSymbol o (data_symbol ps k r)) (sym row.1) named
+    let named = formed_named_data o s.target.triple.binary_format (data_name row.0 k) row.0.linkage row.0.tls (defined_at ps (Data k)) name (λ p h. find_holds (IsWithin o) (λ (q : Placed). is_same_identifier (Data k) q.definition.identifier) p ps within h) in
+    subst (λ (r : Option DataRow). IsFormedSymbol o (data_symbol s.target.triple.binary_format ps k r)) (sym row.1) named
 
 formed_one : (o : OpenModule) (marks : Marks) (object : ObjectData) (ps : List Placed) (i : ℕ) (id : FuncOrDataId) → IsModule o marks → All (IsWithin object) ps → slice_get o.state.created i ≡ Some id → IsFormedSymbol object (identifier_symbol o.state ps id)
 formed_one o marks object ps i (Func k) h within at = formed_function object o.state ps k h.names within (created_function o marks i k h at)
@@ -239,9 +243,38 @@ standard_free Tls false used = refl
 standard_free UninitializedTls true used = refl
 standard_free UninitializedTls false used = refl
 
+mach_free : (standard : StandardSection) → has_zero_byte (mach_name standard) ≡ false
+mach_free Text = refl
+mach_free DataSection = refl
+mach_free ReadOnlyData = refl
+mach_free ReadOnlyDataWithRel = refl
+mach_free UninitializedData = refl
+mach_free Tls = refl
+mach_free UninitializedTls = refl
+
+free_in : (format : BinaryFormat) (standard : StandardSection) (own used : Bool) → has_zero_byte (standard_class_in format standard own used).name ≡ false
+free_in Elf standard own used = standard_free standard own used
+free_in Coff standard own used = standard_free standard own used
+free_in Macho standard own used = mach_free standard
+free_in Wasm standard own used = standard_free standard own used
+free_in Unknown standard own used = standard_free standard own used
+
+asked_free : (d : Definition) (retain : Bool) (text : List ℕ) (asked : Result SectionText SectionFault) → has_zero_byte text ≡ false → ((a : SectionText) → asked ≡ Ok a → has_zero_byte a.name ≡ false) → has_zero_byte (asked_class d retain text asked).name ≡ false
+asked_free d retain text (Ok asked) free h = h asked refl
+asked_free d retain text (Err fault) free h = free
+
+asked_name : (format : BinaryFormat) (text : List ℕ) (asked : SectionText) → has_zero_byte text ≡ false → section_text format text ≡ Ok asked → has_zero_byte asked.name ≡ false
+asked_name Elf text asked free h = let same : text ≡ asked.name = cc in subst (λ (name : List ℕ). has_zero_byte name ≡ false) same free
+asked_name Coff text asked free h = let same : text ≡ asked.name = cc in subst (λ (name : List ℕ). has_zero_byte name ≡ false) same free
+asked_name Macho text asked free h = (text_room text asked free h).name_free
+asked_name Wasm text asked free h = let same : text ≡ asked.name = cc in subst (λ (name : List ℕ). has_zero_byte name ≡ false) same free
+asked_name Unknown text asked free h = let same : text ≡ asked.name = cc in subst (λ (name : List ℕ). has_zero_byte name ≡ false) same free
+
 text_free : (settings : Settings) (s : LinkState) (d : Definition) (text : Option (List ℕ)) → zero_byte (unwrap_or text []) ≡ None → has_zero_byte (class_by_text settings s d text).name ≡ false
-text_free settings s d None h = standard_free (standard_section s d d.identifier) (has_own_section settings d d.identifier) d.used
-text_free settings s d (Some text) h = no_zero text h
+text_free settings s d None h = free_in s.target.triple.binary_format (standard_section s d d.identifier) (has_own_section settings d d.identifier) d.used
+text_free settings s d (Some text) h =
+    let free = no_zero text h in
+    asked_free d (marks_section s.target.triple.binary_format d.used) text (section_text s.target.triple.binary_format text) free (λ a e. asked_name s.target.triple.binary_format text a free e)
 
 -- the name of a section has no zero byte
 class_free : (settings : Settings) (s : LinkState) (target : Target) (functions objects : ℕ) (d : Definition) → IsBody target functions objects d → has_zero_byte (section_class settings s d).name ≡ false
@@ -289,7 +322,7 @@ some_same : {A : Type 0} (x y : A) → Some x ≡ Some y → x ≡ y
 some_same x y h = cc
 
 -- the object with the symbols of what relocations add
-abbrev whole : OpenModule → List Extra → ObjectData
+abbrev pub whole : OpenModule → List Extra → ObjectData
 whole o es = with_added o.settings o.state (partial o.settings o.state o.state.definitions) es
 
 formed_added : (o : OpenModule) (marks : Marks) (es : List Extra) (j : ℕ) (t : SymbolData) → IsModule o marks → AreExtras o.settings o.state es → first_bad_reference o.state ≡ None
@@ -307,7 +340,7 @@ formed_added o marks es j t h are none at =
     let had = All-slice_get (λ (x : Extra). IsHad o.state (extra_target o.settings x)) es j e.0 (extras_had o.settings o.state es are none) e.1 in
     subst (IsFormedSymbol (whole o es)) same (formed_extra (whole o es) o.settings o.state ps e.0 h.begun.library_names (placed_within o marks h) (placed_definitions o.settings o.state o.state.definitions) faithful had)
 
-formed_symbols : (o : OpenModule) (marks : Marks) (es : List Extra) → IsModule o marks → AreExtras o.settings o.state es → first_bad_reference o.state ≡ None → (k : ℕ) (t : SymbolData) → slice_get (whole o es).symbols k ≡ Some t → IsFormedSymbol (whole o es) t
+pub formed_symbols : (o : OpenModule) (marks : Marks) (es : List Extra) → IsModule o marks → AreExtras o.settings o.state es → first_bad_reference o.state ≡ None → (k : ℕ) (t : SymbolData) → slice_get (whole o es).symbols k ≡ Some t → IsFormedSymbol (whole o es) t
 unfolding partial placed
 formed_symbols o marks es h are none k t at =
     let ps : List Placed = placed_of o.settings o.state o.state.definitions in
@@ -315,70 +348,92 @@ formed_symbols o marks es h are none k t at =
     elim (get_append front (map (λ (e : Extra). extra_symbol ps (extra_target o.settings e)) es) k t at)
     [ inl first ↦ formed_at o marks (whole o es) ps k t h (placed_within o marks h) first | inr behind ↦ formed_added o marks es behind.0 t h are none behind.2 ]
 
--- a section of the object is that of the class of a definition
-section_named : (o : OpenModule) (marks : Marks) → IsModule o marks → (k : ℕ) (x : SectionData) → slice_get (partial o.settings o.state o.state.definitions).sections k ≡ Some x
-    → (c : Class) × (j : ℕ) × (has_zero_byte c.name ≡ false) × (x ≡ section_with o.settings o.state c (members (placed_of o.settings o.state o.state.definitions) j))
+-- a section of the object is that of the class of a definition, of which holds what holds of each of them
+pub section_of_class : (o : OpenModule) (Q : Class → Type 0) → All (λ (d : Definition). Q (section_class o.settings o.state d)) o.state.definitions → (k : ℕ) (x : SectionData) → slice_get (partial o.settings o.state o.state.definitions).sections k ≡ Some x
+    → (c : Class) × (j : ℕ) × Q c × (x ≡ section_with o.settings o.state c (members (placed_of o.settings o.state o.state.definitions) j))
 unfolding partial
-section_named o marks h k x at =
-    let Q : Class → Type 0 = λ c. has_zero_byte c.name ≡ false in
+section_of_class o Q each k x at =
     let class : Definition → Class = section_class o.settings o.state in
     let ds : List Definition = o.state.definitions in
+    class_of Q o.settings o.state (placed_of o.settings o.state ds) (sections_used (map class ds)) 0 k x (used_all Q (map class ds) (All-map Q class ds each)) at
+
+section_named : (o : OpenModule) (marks : Marks) → IsModule o marks → (k : ℕ) (x : SectionData) → slice_get (partial o.settings o.state o.state.definitions).sections k ≡ Some x
+    → (c : Class) × (j : ℕ) × (has_zero_byte c.name ≡ false) × (x ≡ section_with o.settings o.state c (members (placed_of o.settings o.state o.state.definitions) j))
+section_named o marks h k x at =
     let bodies : Definition → Type 0 = IsBody o.state.target (length o.state.functions) (length o.state.objects) in
-    let all = used_all Q (map class ds) (All-map Q class ds (All-weaker bodies (λ d. Q (class d)) (λ d body. class_free o.settings o.state o.state.target (length o.state.functions) (length o.state.objects) d body) ds h.bodies)) in
-    class_of Q o.settings o.state (placed_of o.settings o.state ds) (sections_used (map class ds)) 0 k x all at
+    let Q : Class → Type 0 = λ c. has_zero_byte c.name ≡ false in
+    section_of_class o Q (All-weaker bodies (λ d. Q (section_class o.settings o.state d)) (λ d body. class_free o.settings o.state o.state.target (length o.state.functions) (length o.state.objects) d body) o.state.definitions h.bodies) k x at
 
 formed_names : (o : OpenModule) (marks : Marks) → IsModule o marks → (k : ℕ) (x : SectionData) → slice_get (partial o.settings o.state o.state.definitions).sections k ≡ Some x → has_zero_byte x.name ≡ false
 formed_names o marks h k x at = let named = section_named o marks h k x at in ap (λ (y : SectionData). has_zero_byte y.name) named.3 ∙ named.2
 
 -- -- relocations
 
--- a relocation of a kind that the target has, with its field within so many bytes
-abbrev IsGood : Target → Option ℕ → ModuleReloc → Type 0
-IsGood target size r = (has_kind target r.kind ≡ true) × (is_outside size r ≡ false)
+-- a relocation of a kind that the target has, with its field within so many bytes, that its format doesn't refuse behind some others
+pub record IsGood (target : Target) (size : Option ℕ) (r : ModuleReloc) : Type 0 where
+  pub kind : has_kind target r.kind ≡ true
+  pub field : is_outside size r ≡ false
+  pub before : List ModuleReloc
+  pub format : is_refused_in target.triple.binary_format target.triple.architecture before r ≡ false
 
-good_one : (target : Target) (size : Option ℕ) (before : List ModuleReloc) (r : ModuleReloc) → reloc_cause target size before r ≡ None → IsGood target size r
+-- what is not refused is not refused by its format
+pub one_refused : (target : Target) (size : Option ℕ) (before : List ModuleReloc) (r : ModuleReloc) → reloc_cause target size before r ≡ None → is_refused_in target.triple.binary_format target.triple.architecture before r ≡ false
+one_refused target size before r h =
+    let fields : Option Refusal = refuse_if (is_bad_field target size before r) (backend (BadReloc (length before) r.offset)) in
+    let parts = causes_none (refuse_if (not (has_kind target r.kind)) (backend (UnsupportedReloc (length before) r.kind))) (option_or fields None) h in
+    or_right (is_outside size r) (is_refused_in target.triple.binary_format target.triple.architecture before r) (not_refused (is_bad_field target size before r) (backend (BadReloc (length before) r.offset)) (causes_none fields None parts.1).0)
+
+pub good_one : (target : Target) (size : Option ℕ) (before : List ModuleReloc) (r : ModuleReloc) → reloc_cause target size before r ≡ None → IsGood target size r
 good_one target size before r h =
     let kinds : Option Refusal = refuse_if (not (has_kind target r.kind)) (backend (UnsupportedReloc (length before) r.kind)) in
     let fields : Option Refusal = refuse_if (is_bad_field target size before r) (backend (BadReloc (length before) r.offset)) in
-    let parts = causes_none kinds (option_or fields None) h in (
-      was_true (has_kind target r.kind) (not_refused (not (has_kind target r.kind)) (backend (UnsupportedReloc (length before) r.kind)) parts.0),
-      or_left (is_outside size r) (is_refused_in target.triple.binary_format target.triple.architecture before r) (not_refused (is_bad_field target size before r) (backend (BadReloc (length before) r.offset)) (causes_none fields None parts.1).0),
-    )
+    let parts = causes_none kinds (option_or fields None) h in
+    let good = not_refused (is_bad_field target size before r) (backend (BadReloc (length before) r.offset)) (causes_none fields None parts.1).0 in
+    record {
+      kind = was_true (has_kind target r.kind) (not_refused (not (has_kind target r.kind)) (backend (UnsupportedReloc (length before) r.kind)) parts.0);
+      field = or_left (is_outside size r) (is_refused_in target.triple.binary_format target.triple.architecture before r) good;
+      before = before;
+      format = or_right (is_outside size r) (is_refused_in target.triple.binary_format target.triple.architecture before r) good;
+    }
 
 -- the relocations of which none is refused
-good_relocs : (target : Target) (size : Option ℕ) (before rs : List ModuleReloc) → bad_reloc_from target size before rs ≡ None → All (IsGood target size) rs
+pub good_relocs : (target : Target) (size : Option ℕ) (before rs : List ModuleReloc) → bad_reloc_from target size before rs ≡ None → All (IsGood target size) rs
 good_relocs target size before [] h = All-nil (IsGood target size)
 good_relocs target size before (r ∷ rs) h =
     let parts = causes_none (reloc_cause target size before r) (bad_reloc_from target size (before ++ r ∷ []) rs) h in
     All-cons (IsGood target size) r rs (good_one target size before r parts.0) (good_relocs target size (before ++ r ∷ []) rs parts.1)
 
-elf_kind : (format : BinaryFormat) (architecture : Architecture) (kind : Reloc) → format ≡ Elf → has_kind_in format architecture kind ≡ true → is_some (elf_number architecture kind) ≡ true
-elf_kind format architecture kind is h = subst (λ (f : BinaryFormat). has_kind_in f architecture kind ≡ true) is h
-
--- a field that isn't outside lies in bytes
-field_bytes : (c : Contents) (section : Option (List ℕ)) (r : ModuleReloc) → is_outside (bytes_in c) r ≡ false → (are_counted c section ≡ false) × (r.offset + field_width r.kind ≤ size_of c)
-field_bytes (bytes xs) section r h = (refl, ltb-false (length xs) (r.offset + field_width r.kind) h)
-field_bytes (zeros n) section r h = absurd (cc)
-
 some_is : (n : Option ℕ) → is_some n ≡ true → n ≡ Some (unwrap_or n 0)
 some_is None h = absurd (cc)
 some_is (Some n) h = refl
+
+elf_kind : (format : BinaryFormat) (architecture : Architecture) (kind : Reloc) → format ≡ Elf → has_kind_in format architecture kind ≡ true → HasElfKind architecture (relocation_flags format architecture kind) kind
+elf_kind Elf architecture kind e h = some_is (elf_number architecture kind) h
+elf_kind Coff architecture kind e h = absurd (cc)
+elf_kind Macho architecture kind e h = absurd (cc)
+elf_kind Wasm architecture kind e h = absurd (cc)
+elf_kind Unknown architecture kind e h = absurd (cc)
+
+-- a field that isn't outside lies in bytes
+pub field_bytes : (c : Contents) (r : ModuleReloc) → is_outside (bytes_in c) r ≡ false → (are_bytes (Some c) ≡ true) × (r.offset + field_width r.kind ≤ size_of c)
+field_bytes (bytes xs) r h = (refl, ltb-false (length xs) (r.offset + field_width r.kind) h)
+field_bytes (zeros n) r h = absurd (cc)
 
 cond_kind : (tls : Bool) → is_file (cond tls kind.Tls kind.Data) ≡ false
 cond_kind true = refl
 cond_kind false = refl
 
-function_no_file : (ps : List Placed) (k : ℕ) (row : Option FunctionRow) → is_file (function_symbol ps k row).kind ≡ false
-function_no_file ps k None = refl
-function_no_file ps k (Some row) = refl
+function_no_file : (format : BinaryFormat) (ps : List Placed) (k : ℕ) (row : Option FunctionRow) → is_file (function_symbol format ps k row).kind ≡ false
+function_no_file format ps k None = refl
+function_no_file format ps k (Some row) = refl
 
-data_no_file : (ps : List Placed) (k : ℕ) (row : Option DataRow) → is_file (data_symbol ps k row).kind ≡ false
-data_no_file ps k None = refl
-data_no_file ps k (Some row) = cond_kind row.tls
+data_no_file : (format : BinaryFormat) (ps : List Placed) (k : ℕ) (row : Option DataRow) → is_file (data_symbol format ps k row).kind ≡ false
+data_no_file format ps k None = refl
+data_no_file format ps k (Some row) = cond_kind row.tls
 
 identifier_no_file : (s : LinkState) (ps : List Placed) (id : FuncOrDataId) → is_file (identifier_symbol s ps id).kind ≡ false
-identifier_no_file s ps (Func k) = function_no_file ps k (slice_get s.functions k)
-identifier_no_file s ps (Data k) = data_no_file ps k (slice_get s.objects k)
+identifier_no_file s ps (Func k) = function_no_file s.target.triple.binary_format ps k (slice_get s.functions k)
+identifier_no_file s ps (Data k) = data_no_file s.target.triple.binary_format ps k (slice_get s.objects k)
 
 extra_no_file : (ps : List Placed) (t : RelocationTarget) → is_file (extra_symbol ps t).kind ≡ false
 extra_no_file ps (identifier id) = refl
@@ -409,7 +464,7 @@ target_row o es (known symbol) are h = ap (λ (ts : List RelocationTarget). 1 + 
 target_row o es (label function offset) are h = ap (λ (ts : List RelocationTarget). 1 + length o.state.created + position_or_len (is_same_target (label function offset)) ts) (sym are.found)
 
 -- the symbol of a target that is reached is one of the object, and no file
-formed_target : (o : OpenModule) (marks : Marks) (es : List Extra) (t : RelocationTarget) → IsModule o marks → AreExtras o.settings o.state es → IsReached o.settings o.state es t
+pub formed_target : (o : OpenModule) (marks : Marks) (es : List Extra) (t : RelocationTarget) → IsModule o marks → AreExtras o.settings o.state es → IsReached o.settings o.state es t
     → (x : SymbolData) × (slice_get (whole o es).symbols (row_of o.settings o.state t) ≡ Some x) × (is_file x.kind ≡ false)
 formed_target o marks es (identifier id) h are reached =
     (identifier_symbol o.state (placed o.settings o.state) id, identifier_there o marks es id h reached.0, identifier_no_file o.state (placed o.settings o.state) id)
@@ -418,30 +473,26 @@ formed_target o marks es (known symbol) h are reached = added_there o es (known 
 formed_target o marks es (label function offset) h are reached = added_there o es (label function offset) _ (reached.1 refl) (target_row o es (label function offset) are refl)
 
 -- a relocation of a definition that ends within its section
-formed_one_relocation : (o : OpenModule) (marks : Marks) (es : List Extra) (x : SectionData) (c : Class) (p : Placed) (r : ModuleReloc) → IsModule o marks → AreExtras o.settings o.state es → IsBody o.state.target (length o.state.functions) (length o.state.objects) p.definition → is_unstored_class o.state c ≡ is_counted p.definition
-    → (is_unstored_class o.state c ≡ false → p.offset + room_of o.state p.definition ≤ length x.contents) → IsGood o.state.target (bytes_in p.definition.contents) r → IsReached o.settings o.state es (target_of o.settings o.state r.name)
+formed_one_relocation : (o : OpenModule) (marks : Marks) (es : List Extra) (x : SectionData) (p : Placed) (r : ModuleReloc) → o.state.target.triple.binary_format ≡ Elf → IsModule o marks → AreExtras o.settings o.state es
+    → (are_bytes (Some p.definition.contents) ≡ true → p.offset + room_of o.state p.definition ≤ length x.contents) → IsGood o.state.target (bytes_in p.definition.contents) r → IsReached o.settings o.state es (target_of o.settings o.state r.name)
     → IsFormedRelocation (whole o es) x (object_relocation o.settings o.state p.offset r)
 unfolding partial
-formed_one_relocation o marks es x c p r h are body stored within good reached =
-    let field = field_bytes p.definition.contents p.definition.section r good.1 in
-    let room = room_elf o.state.target.triple.binary_format (size_of p.definition.contents) h.begun.format in
-    let inside = within (stored ∙ field.0) in
-    let number = some_is (elf_number o.state.target.triple.architecture r.kind) (elf_kind o.state.target.triple.binary_format o.state.target.triple.architecture r.kind h.begun.format good.0) in
+formed_one_relocation o marks es x p r elf h are within good reached =
+    let field = field_bytes p.definition.contents r good.field in
+    let room = room_least o.state.target.triple.binary_format (size_of p.definition.contents) in
+    let inside = within field.0 in
+    let number = elf_kind o.state.target.triple.binary_format o.state.target.triple.architecture r.kind elf good.kind in
     record { field = (r.kind, number, omega (arith, field.1, room, inside)); symbol = formed_target o marks es (target_of o.settings o.state r.name) h are reached }
 
-All-flat : {A B : Type 0} (P : B → Type 0) (f : A → List B) (xs : List A) → All (λ x. All P (f x)) xs → All P (flat_map f xs)
+pub All-flat : {A B : Type 0} (P : B → Type 0) (f : A → List B) (xs : List A) → All (λ x. All P (f x)) xs → All P (flat_map f xs)
 All-flat P f [] all = All-nil P
 All-flat P f (x ∷ xs) all = All-join P (f x) (flat_map f xs) (All-head (λ y. All P (f y)) x xs all) (All-flat P f xs (All-tail (λ y. All P (f y)) x xs all)) where
   All-join : {B : Type 0} (P : B → Type 0) (ys zs : List B) → All P ys → All P zs → All P (ys ++ zs)
   All-join P [] zs a b = b
   All-join P (y ∷ ys) zs a b = All-cons P y (ys ++ zs) (All-head P y ys a) (All-join P ys zs (All-tail P y ys a) b)
 
-All-both : {A : Type 0} (P Q : A → Type 0) (xs : List A) → All P xs → All Q xs → All (λ x. P x × Q x) xs
-All-both P Q [] a b = All-nil (λ x. P x × Q x)
-All-both P Q (x ∷ xs) a b = All-cons (λ y. P y × Q y) x xs (All-head P x xs a, All-head Q x xs b) (All-both P Q xs (All-tail P x xs a) (All-tail Q x xs b))
-
 -- what holds of each of a section's definitions
-All-members : (P : Placed → Type 0) (ps : List Placed) (k : ℕ) → All (λ (p : Placed). p.section ≡ k → P p) ps → All P (members ps k)
+pub All-members : (P : Placed → Type 0) (ps : List Placed) (k : ℕ) → All (λ (p : Placed). p.section ≡ k → P p) ps → All P (members ps k)
 All-members P [] k all = All-nil P
 All-members P (p ∷ ps) k all = member_from P p ps k (p.section == k) refl (All-head (λ (q : Placed). q.section ≡ k → P q) p ps all) (All-members P ps k (All-tail (λ (q : Placed). q.section ≡ k → P q) p ps all)) where
   member_from : (P : Placed → Type 0) (p : Placed) (ps : List Placed) (k : ℕ) (b : Bool) → (p.section == k) ≡ b → (p.section ≡ k → P p) → All P (members ps k) → All P (cond b (p ∷ members ps k) (members ps k))
@@ -466,11 +517,11 @@ known_all o es k (p ∷ ps) a b c =
     let here = All-head A p ps a in
     All-cons (IsKnown o es k) p ps (record { body = here.0; targets = here.1; class = All-head B p ps b; ends = All-head C p ps c }) (known_all o es k ps (All-tail A p ps a) (All-tail B p ps b) (All-tail C p ps c))
 
-before_all : (o : OpenModule) (marks : Marks) → IsModule o marks → All (λ (x : Definition). IsShareable (section_class o.settings o.state x)) o.state.definitions
+before_all : (o : OpenModule) (marks : Marks) → IsModule o marks → All (λ (x : Definition). IsShareable o.state.target.triple.binary_format (section_class o.settings o.state x)) o.state.definitions
 before_all o marks h =
-    All-weaker (IsBody o.state.target (length o.state.functions) (length o.state.objects)) (λ (x : Definition). IsShareable (section_class o.settings o.state x)) (λ x body. shareable o.settings o.state x body.plain) o.state.definitions h.bodies
+    All-weaker (IsBody o.state.target (length o.state.functions) (length o.state.objects)) (λ (x : Definition). IsShareable o.state.target.triple.binary_format (section_class o.settings o.state x)) (λ x body. shareable o.settings o.state x body.plain) o.state.definitions h.bodies
 
-all_known : (o : OpenModule) (marks : Marks) (es : List Extra) (k : ℕ) → IsModule o marks → AreExtras o.settings o.state es → first_bad_reference o.state ≡ None → All (IsKnown o es k) (placed_of o.settings o.state o.state.definitions)
+pub all_known : (o : OpenModule) (marks : Marks) (es : List Extra) (k : ℕ) → IsModule o marks → AreExtras o.settings o.state es → first_bad_reference o.state ≡ None → All (IsKnown o es k) (placed_of o.settings o.state o.state.definitions)
 all_known o marks es k h are none =
     let ds : List Definition = o.state.definitions in
     let bodies : Definition → Type 0 = IsBody o.state.target (length o.state.functions) (length o.state.objects) in
@@ -488,46 +539,46 @@ section_long o k c x stored is =
     ap (λ (y : SectionData). length y.contents) is ∙ ap (λ (b : Bool). length (cond b [] (joined (map (λ (p : Placed). piece_of o.state p.definition) ps)))) stored
     ∙ joined_length o.state ps ∙ ap end_of (members_extents o.settings o.state k o.state.definitions)
 
-section_class_at : (o : OpenModule) (k : ℕ) (x : SectionData) → slice_get (partial o.settings o.state o.state.definitions).sections k ≡ Some x
+pub section_class_at : (o : OpenModule) (k : ℕ) (x : SectionData) → slice_get (partial o.settings o.state o.state.definitions).sections k ≡ Some x
     → (c : Class) × (slice_get (sections_used (map (section_class o.settings o.state) o.state.definitions)) k ≡ Some c) × (x ≡ section_with o.settings o.state c (members (placed_of o.settings o.state o.state.definitions) k))
 unfolding partial
 section_class_at o k x at = class_at_of o.settings o.state (placed_of o.settings o.state o.state.definitions) (sections_used (map (section_class o.settings o.state) o.state.definitions)) 0 k k x (omega arith) at
 
--- the relocations of a section are formed
-section_relocations : (o : OpenModule) (marks : Marks) (es : List Extra) → IsModule o marks → AreExtras o.settings o.state es → first_bad_reference o.state ≡ None → (k : ℕ) (c : Class) (x : SectionData) → slice_get (sections_used (map (section_class o.settings o.state) o.state.definitions)) k ≡ Some c
-    → x ≡ section_with o.settings o.state c (members (placed_of o.settings o.state o.state.definitions) k) → All (IsFormedRelocation (whole o es) x) x.relocations
-section_relocations o marks es h are none k c x there is =
+-- what is known of a definition that stands in a section: its bytes lie in those of the section
+pub known_within : (o : OpenModule) (es : List Extra) (k : ℕ) (c : Class) (x : SectionData) (p : Placed) → slice_get (sections_used (map (section_class o.settings o.state) o.state.definitions)) k ≡ Some c
+    → x ≡ section_with o.settings o.state c (members (placed_of o.settings o.state o.state.definitions) k) → IsKnown o es k p → p.section ≡ k → are_bytes (Some p.definition.contents) ≡ true → p.offset + room_of o.state p.definition ≤ length x.contents
+known_within o es k c x p there is w e given =
+    let same : section_class o.settings o.state p.definition ≡ c = (let one : Some (section_class o.settings o.state p.definition) ≡ Some c = sym w.class ∙ ap (slice_get (sections_used (map (section_class o.settings o.state) o.state.definitions))) e ∙ there in cc) in
+    let stored : is_unstored_class o.state c ≡ false = ap (is_unstored_class o.state) (sym same) ∙ bytes_stored o.settings o.state p.definition given w.body.section in
+    let ends = w.ends e in
+    let size = section_long o k c x stored is in
+    omega (arith, ends, size)
+
+-- what holds of each relocation of a section, by what is known of its definition
+pub section_each : (o : OpenModule) (marks : Marks) (es : List Extra) (k : ℕ) (c : Class) (x : SectionData) (P : Relocation → Type 0) → IsModule o marks → AreExtras o.settings o.state es → first_bad_reference o.state ≡ None
+    → slice_get (sections_used (map (section_class o.settings o.state) o.state.definitions)) k ≡ Some c → x ≡ section_with o.settings o.state c (members (placed_of o.settings o.state o.state.definitions) k)
+    → ((p : Placed) (r : ModuleReloc) → (are_bytes (Some p.definition.contents) ≡ true → p.offset + room_of o.state p.definition ≤ length x.contents) → IsGood o.state.target (bytes_in p.definition.contents) r → IsReached o.settings o.state es (target_of o.settings o.state r.name) → P (object_relocation o.settings o.state p.offset r))
+    → All P x.relocations
+section_each o marks es k c x P h are none there is one =
     let ps : List Placed = placed_of o.settings o.state o.state.definitions in
-    let P : Relocation → Type 0 = IsFormedRelocation (whole o es) x in
     let Q : Placed → Type 0 = λ p. All P (relocations_at o.settings o.state p) in
-    let known = All-weaker (IsKnown o es k) (λ (p : Placed). p.section ≡ k → Q p) (λ p w e. placed_relocations o marks es k c x p h are there is w e) ps (all_known o marks es k h are none) in
-    subst (All P) (sym (ap (λ (y : SectionData). y.relocations) is)) (All-flat P (relocations_at o.settings o.state) (members ps k) (All-members Q ps k known)) where
-      placed_relocations : (o : OpenModule) (marks : Marks) (es : List Extra) (k : ℕ) (c : Class) (x : SectionData) (p : Placed) → IsModule o marks → AreExtras o.settings o.state es → slice_get (sections_used (map (section_class o.settings o.state) o.state.definitions)) k ≡ Some c
-          → x ≡ section_with o.settings o.state c (members (placed_of o.settings o.state o.state.definitions) k) → IsKnown o es k p → p.section ≡ k → All (IsFormedRelocation (whole o es) x) (relocations_at o.settings o.state p)
-      placed_relocations o marks es k c x p h are there is w e =
-          let same : section_class o.settings o.state p.definition ≡ c = (let one : Some (section_class o.settings o.state p.definition) ≡ Some c = sym w.class ∙ ap (slice_get (sections_used (map (section_class o.settings o.state) o.state.definitions))) e ∙ there in cc) in
-          let stored = ap (is_unstored_class o.state) (sym same) ∙ class_counted o.settings o.state p.definition h.begun.format w.body.plain in
-          let R : Relocation → Type 0 = IsFormedRelocation (whole o es) x in
-          let both = All-both (IsGood o.state.target (bytes_in p.definition.contents)) (λ (r : ModuleReloc). IsReached o.settings o.state es (target_of o.settings o.state r.name)) p.definition.relocs (good_relocs o.state.target (bytes_in p.definition.contents) [] p.definition.relocs w.body.judged) w.targets in
-          let ends = w.ends e in
-          let long : is_unstored_class o.state c ≡ false → p.offset + room_of o.state p.definition ≤ length x.contents = λ f. (let size = section_long o k c x f is in omega (arith, ends, size)) in
-          All-map R (object_relocation o.settings o.state p.offset) p.definition.relocs
-          (All-weaker (λ r. IsGood o.state.target (bytes_in p.definition.contents) r × IsReached o.settings o.state es (target_of o.settings o.state r.name)) (λ r. R (object_relocation o.settings o.state p.offset r)) (λ r g. formed_one_relocation o marks es x c p r h are w.body stored long g.0 g.1) p.definition.relocs both)
+    let good : Placed → ModuleReloc → Type 0 = λ p r. IsGood o.state.target (bytes_in p.definition.contents) r in
+    let reached : ModuleReloc → Type 0 = λ r. IsReached o.settings o.state es (target_of o.settings o.state r.name) in
+    let each : (p : Placed) → IsKnown o es k p → p.section ≡ k → Q p = λ p w e.
+    All-map P (object_relocation o.settings o.state p.offset) p.definition.relocs
+    (All-weaker (λ r. good p r × reached r) (λ r. P (object_relocation o.settings o.state p.offset r)) (λ r both. one p r (known_within o es k c x p there is w e) both.0 both.1) p.definition.relocs
+    (All-both (good p) reached p.definition.relocs (good_relocs o.state.target (bytes_in p.definition.contents) [] p.definition.relocs w.body.judged) w.targets)) in
+    let known = All-weaker (IsKnown o es k) (λ (p : Placed). p.section ≡ k → Q p) each ps (all_known o marks es k h are none) in
+    subst (All P) (sym (ap (λ (y : SectionData). y.relocations) is)) (All-flat P (relocations_at o.settings o.state) (members ps k) (All-members Q ps k known))
 
-formed_relocations : (o : OpenModule) (marks : Marks) (es : List Extra) → IsModule o marks → AreExtras o.settings o.state es → first_bad_reference o.state ≡ None → (k : ℕ) (x : SectionData) → slice_get (whole o es).sections k ≡ Some x → (m : ℕ) (r : Relocation) → slice_get x.relocations m ≡ Some r
-    → IsFormedRelocation (whole o es) x r
-formed_relocations o marks es h are none k x at m r found =
+formed_relocations : (o : OpenModule) (marks : Marks) (es : List Extra) → o.state.target.triple.binary_format ≡ Elf → IsModule o marks → AreExtras o.settings o.state es → first_bad_reference o.state ≡ None → (k : ℕ) (x : SectionData) → slice_get (whole o es).sections k ≡ Some x
+    → (m : ℕ) (r : Relocation) → slice_get x.relocations m ≡ Some r → IsFormedRelocation (whole o es) x r
+formed_relocations o marks es elf h are none k x at m r found =
     let class = section_class_at o k x at in
-    All-slice_get (IsFormedRelocation (whole o es) x) x.relocations m r (section_relocations o marks es h are none k class.0 x class.1 class.2) found
+    let P : Relocation → Type 0 = IsFormedRelocation (whole o es) x in
+    All-slice_get P x.relocations m r (section_each o marks es k class.0 x P h are none class.1 class.2 (λ p q within good reached. formed_one_relocation o marks es x p q elf h are within good reached)) found
 
--- the object of a module whose relocations go to what can be had can be written
-pub formed : (o : OpenModule) (marks : Marks) (es : List Extra) → IsModule o marks → AreExtras o.settings o.state es → first_bad_reference o.state ≡ None → IsFormedElf (object_of o.settings o.state)
-formed o marks es h are none =
-    subst IsFormedElf (partial_whole o.settings o.state es are) (record { symbols = formed_symbols o marks es h are none; names = formed_names o marks h; relocations = formed_relocations o marks es h are none })
-
-object_format : (settings : Settings) (s : LinkState) → (object_of settings s).format ≡ s.target.triple.binary_format
-unfolding object_of
-object_format settings s = refl
-
-pub writable : (o : OpenModule) (marks : Marks) (es : List Extra) (object : ObjectData) → IsModule o marks → AreExtras o.settings o.state es → first_bad_reference o.state ≡ None → object ≡ object_of o.settings o.state → IsWritable object
-writable o marks es object h are none e = rw e (record { format = object_format o.settings o.state ∙ h.begun.format; formed = formed o marks es h are none })
+-- the object of an ELF module whose relocations go to what can be had can be written
+pub formed_elf_object : (o : OpenModule) (marks : Marks) (es : List Extra) → o.state.target.triple.binary_format ≡ Elf → IsModule o marks → AreExtras o.settings o.state es → first_bad_reference o.state ≡ None → IsFormedElf (object_of o.settings o.state)
+formed_elf_object o marks es elf h are none =
+    subst IsFormedElf (partial_whole o.settings o.state es are) (record { symbols = formed_symbols o marks es h are none; names = formed_names o marks h; relocations = formed_relocations o marks es elf h are none })

@@ -1,5 +1,5 @@
 -- What stays true of a module.
-use Rattle.std.proofs.Common.{◌≡◌, ℕ, zero, suc, ◌+◌, ◌||◌, ◌==◌, ◌<◌, ◌≤◌, ◌++◌, ◌∷◌, List, [], Bool, true, false, length, get_or, set, refl, ap, sym, ◌∙◌, arith, length-append, length-set, inl, inr, get_or-set_same, get_or-set_other}
+use Rattle.std.proofs.Common.{◌≡◌, ℕ, zero, suc, ◌+◌, ◌||◌, ◌==◌, ◌<◌, ◌≤◌, ◌++◌, ◌∷◌, List, [], Bool, true, false, length, get_or, set, refl, ap, sym, ◌∙◌, subst, arith, length-append, length-set, inl, inr, get_or-set_same, get_or-set_other}
 use Rattle.std.proofs.lemmas.Bool.Decides.{eqb_tells}
 use Rattle.std.proofs.lemmas.List.Elements.{All-nil, All-push, All-weaker}
 use Rattle.std.proofs.lemmas.List.Folds.{list_any-append}
@@ -7,8 +7,6 @@ use Rattle.std.specs.List.{All, list_any}
 use Rattle.ir_core.specs.Moments.{moments}
 use Rattle.ir_core.specs.Target.{Target}
 use Rattle.ir_core.specs.declared.target.BinaryFormat.{BinaryFormat}
-use Rattle.ir_core.specs.declared.target.BinaryFormat.TheVariants.{Elf, Coff, Macho, Wasm, Unknown}
-use Rattle.ir_core.specs.declared.target.Architecture.{Architecture}
 use Rattle.ir_core.proofs.MomentLaws.{moments-end}
 use Rattle.cranelift_module.specs.declared.identifiers.FuncOrDataId.{FuncOrDataId}
 use Rattle.cranelift_module.specs.declared.identifiers.FuncOrDataId.TheVariants.{Func, Data}
@@ -19,17 +17,9 @@ use Rattle.cranelift_module.specs.LinkState.{LinkState, state_of}
 use Rattle.cranelift_module.specs.Refusal.{is_same_identifier}
 use Rattle.cranelift_object.specs.Settings.{Settings}
 use Rattle.cranelift_object.specs.Opened.{OpenModule}
-use Rattle.cranelift_object.specs.Kept.{IsBegun, IsDeclared, IsBody, IsFirst, IsName, IsModule, Marks}
-use Rattle.cranelift_object.specs.Part.{is_supported, is_mach_o}
+use Rattle.cranelift_object.specs.Kept.{IsBegun, IsDeclared, IsBody, IsFirst, IsName, IsModule, Marks, HasPlaceIn}
 use Rattle.cranelift_object.proofs.CreationLaws.{numbered-function, numbered-data}
-
--- a pair that is built and isn't Mach-O is ELF
-pub supported_elf : (architecture : Architecture) (format : BinaryFormat) → is_supported architecture format ≡ true → is_mach_o architecture format ≡ false → format ≡ Elf
-supported_elf architecture Elf h n = refl
-supported_elf architecture Coff h n = absurd (cc)
-supported_elf architecture Macho h n = absurd (cc)
-supported_elf architecture Wasm h n = absurd (cc)
-supported_elf architecture Unknown h n = absurd (cc)
+use Rattle.cranelift_object.proofs.PlaceInLaws.{function_placed, placed_more}
 
 -- a state without calls
 abbrev pub no_calls : Target → LinkState
@@ -50,6 +40,7 @@ kept_none settings target h =
       few_objects = omega arith;
       order = (refl, refl);
       bodies = All-nil (IsBody target 0 0);
+      placed = All-nil (λ (d : Definition). HasPlaceIn target.triple.binary_format [] d.identifier);
       apart = All-nil IsFirst;
       marked = refl;
       marking = λ k. refl;
@@ -84,6 +75,7 @@ IsBody-more target functions objects more_functions more_objects d f e b =
       aligned = b.aligned;
       judged = b.judged;
       text = b.text;
+      section = b.section;
       plain = b.plain;
     }
 
@@ -104,6 +96,7 @@ kept_declared o marks row h name few =
       few_objects = h.few_objects;
       order = rw longer (numbered-function 0 0 n (length o.state.objects) o.state.created h.order);
       bodies = bodies-more o.state.target n (length o.state.objects) (length (o.state.functions ++ row ∷ [])) (length o.state.objects) o.state.definitions more (omega arith) h.bodies;
+      placed = h.placed;
       apart = h.apart;
       marked = length-append marks.functions (false ∷ []) ∙ ap (λ count. count + 1) h.marked ∙ sym longer;
       marking = λ k. false_past marks.functions k ∙ h.marking k;
@@ -113,6 +106,7 @@ kept_declared o marks row h name few =
 
 pub kept_data : (o : OpenModule) (marks : Marks) (row : DataRow) → IsModule o marks → IsName row.name → length o.state.objects < 4294967295 → IsModule (with_data o row) (record marks { objects = marks.objects ++ false ∷ [] })
 kept_data o marks row h name few =
+    let format : BinaryFormat = o.state.target.triple.binary_format in
     let n : ℕ = length o.state.objects in
     let longer : length (o.state.objects ++ row ∷ []) ≡ n + 1 = length-append o.state.objects (row ∷ []) in
     let more : n ≤ length (o.state.objects ++ row ∷ []) = omega arith in
@@ -124,6 +118,7 @@ kept_data o marks row h name few =
       few_objects = omega arith;
       order = rw longer (numbered-data 0 0 (length o.state.functions) n o.state.created h.order);
       bodies = bodies-more o.state.target (length o.state.functions) n (length o.state.functions) (length (o.state.objects ++ row ∷ [])) o.state.definitions (omega arith) more h.bodies;
+      placed = All-weaker (λ (d : Definition). HasPlaceIn format o.state.objects d.identifier) (λ (d : Definition). HasPlaceIn format (o.state.objects ++ row ∷ []) d.identifier) (λ d p. placed_more format o.state.objects row d.identifier p) o.state.definitions h.placed;
       apart = h.apart;
       marked = h.marked;
       marking = h.marking;
@@ -157,6 +152,7 @@ kept_raised o marks lists h same names objects =
       few_objects = rw objects h.few_objects;
       order = rw (same, objects) h.order;
       bodies = rw (same, objects) h.bodies;
+      placed = rw objects h.placed;
       apart = h.apart;
       marked = h.marked ∙ sym same;
       marking = h.marking;
@@ -165,9 +161,10 @@ kept_raised o marks lists h same names objects =
     }
 
 -- a module with data objects of the same names
-pub kept_raised_data : (o : OpenModule) (marks : Marks) (lists : DeclarationLists) → IsModule o marks → length lists.objects ≡ length o.state.objects → All (λ (row : DataRow). IsName row.name) lists.objects → lists.functions ≡ o.state.functions
+pub kept_raised_data : (o : OpenModule) (marks : Marks) (lists : DeclarationLists) → IsModule o marks → length lists.objects ≡ length o.state.objects → All (λ (row : DataRow). IsName row.name) lists.objects → ((id : FuncOrDataId) → HasPlaceIn o.state.target.triple.binary_format o.state.objects id → HasPlaceIn o.state.target.triple.binary_format lists.objects id) → lists.functions ≡ o.state.functions
     → IsModule (record { settings = o.settings; state = record { target = o.state.target; functions = lists.functions; objects = lists.objects; created = o.state.created; definitions = o.state.definitions } }) marks
-kept_raised_data o marks lists h same names functions =
+kept_raised_data o marks lists h same names places functions =
+    let format : BinaryFormat = o.state.target.triple.binary_format in
     record {
       begun = h.begun;
       names = rw functions h.names;
@@ -176,6 +173,7 @@ kept_raised_data o marks lists h same names functions =
       few_objects = rw same h.few_objects;
       order = rw (same, functions) h.order;
       bodies = rw (functions, same) h.bodies;
+      placed = All-weaker (λ (d : Definition). HasPlaceIn format o.state.objects d.identifier) (λ (d : Definition). HasPlaceIn format lists.objects d.identifier) (λ d p. places d.identifier p) o.state.definitions h.placed;
       apart = h.apart;
       marked = rw functions h.marked;
       marking = h.marking;
@@ -214,6 +212,7 @@ pub kept_defined : (o : OpenModule) (marks : Marks) (d : Definition) (k : ℕ) �
 kept_defined o marks d k h e body below free =
     let in' : k < length marks.functions = rw h.marked below in
     let bodies : Definition → Type 0 = IsBody o.state.target (length o.state.functions) (length o.state.objects) in
+    let places : Definition → Type 0 = λ x. HasPlaceIn o.state.target.triple.binary_format o.state.objects x.identifier in
     let first : list_any (λ (x : Definition). is_same_identifier d.identifier x.identifier) o.state.definitions ≡ false = rw e (sym (h.marking k) ∙ free) in
     record {
       begun = h.begun;
@@ -223,6 +222,7 @@ kept_defined o marks d k h e body below free =
       few_objects = h.few_objects;
       order = h.order;
       bodies = All-push bodies o.state.definitions d h.bodies body;
+      placed = All-push places o.state.definitions d h.placed (subst (HasPlaceIn o.state.target.triple.binary_format o.state.objects) (sym e) (function_placed o.state.target.triple.binary_format o.state.objects k));
       apart = rw (moments-end o.state.definitions d) (All-push IsFirst (moments o.state.definitions) (record { before = o.state.definitions; here = d }) h.apart first);
       marked = length-set marks.functions k true ∙ h.marked;
       marking = λ j. marking_more marks.functions o.state.definitions d Func k j in' (λ i. ap (is_same_identifier (Func i)) e) h.marking;
@@ -231,11 +231,12 @@ kept_defined o marks d k h e body below free =
     }
 
 -- a module with one more definition of a data object
-pub kept_defined_data : (o : OpenModule) (marks : Marks) (d : Definition) (k : ℕ) → IsModule o marks → d.identifier ≡ Data k → IsBody o.state.target (length o.state.functions) (length o.state.objects) d → k < length o.state.objects → get_or marks.objects k false ≡ false
+pub kept_defined_data : (o : OpenModule) (marks : Marks) (d : Definition) (k : ℕ) → IsModule o marks → d.identifier ≡ Data k → HasPlaceIn o.state.target.triple.binary_format o.state.objects (Data k) → IsBody o.state.target (length o.state.functions) (length o.state.objects) d → k < length o.state.objects → get_or marks.objects k false ≡ false
     → IsModule (with_definition o d) (record marks { objects = set marks.objects k true })
-kept_defined_data o marks d k h e body below free =
+kept_defined_data o marks d k h e place body below free =
     let in' : k < length marks.objects = rw h.marked_objects below in
     let bodies : Definition → Type 0 = IsBody o.state.target (length o.state.functions) (length o.state.objects) in
+    let places : Definition → Type 0 = λ x. HasPlaceIn o.state.target.triple.binary_format o.state.objects x.identifier in
     let first : list_any (λ (x : Definition). is_same_identifier d.identifier x.identifier) o.state.definitions ≡ false = rw e (sym (h.marking_objects k) ∙ free) in
     record {
       begun = h.begun;
@@ -245,6 +246,7 @@ kept_defined_data o marks d k h e body below free =
       few_objects = h.few_objects;
       order = h.order;
       bodies = All-push bodies o.state.definitions d h.bodies body;
+      placed = All-push places o.state.definitions d h.placed (subst (HasPlaceIn o.state.target.triple.binary_format o.state.objects) (sym e) place);
       apart = rw (moments-end o.state.definitions d) (All-push IsFirst (moments o.state.definitions) (record { before = o.state.definitions; here = d }) h.apart first);
       marked = h.marked;
       marking = λ j. marking_past marks.functions o.state.definitions d Func j (ap (is_same_identifier (Func j)) e) h.marking;
@@ -258,7 +260,7 @@ pub kept_body : (o : OpenModule) (marks : Marks) (d : Definition) (definitions :
     → IsModule (record { settings = o.settings; state = record { target = o.state.target; functions = o.state.functions; objects = o.state.objects; created = o.state.created; definitions = definitions } }) (record { functions = set marks.functions i true; objects = marks.objects })
 kept_body o marks d definitions k i h e body below free f g = rw (f, g) (kept_defined o marks d k h e body below free)
 
-pub kept_body_data : (o : OpenModule) (marks : Marks) (d : Definition) (definitions : List Definition) (k i : ℕ) → IsModule o marks → d.identifier ≡ Data k → IsBody o.state.target (length o.state.functions) (length o.state.objects) d → k < length o.state.objects → get_or marks.objects k false ≡ false
+pub kept_body_data : (o : OpenModule) (marks : Marks) (d : Definition) (definitions : List Definition) (k i : ℕ) → IsModule o marks → d.identifier ≡ Data k → HasPlaceIn o.state.target.triple.binary_format o.state.objects (Data k) → IsBody o.state.target (length o.state.functions) (length o.state.objects) d → k < length o.state.objects → get_or marks.objects k false ≡ false
     → definitions ≡ o.state.definitions ++ d ∷ [] → i ≡ k
     → IsModule (record { settings = o.settings; state = record { target = o.state.target; functions = o.state.functions; objects = o.state.objects; created = o.state.created; definitions = definitions } }) (record { functions = marks.functions; objects = set marks.objects i true })
-kept_body_data o marks d definitions k i h e body below free f g = rw (f, g) (kept_defined_data o marks d k h e body below free)
+kept_body_data o marks d definitions k i h e place body below free f g = rw (f, g) (kept_defined_data o marks d k h e place body below free)

@@ -7,7 +7,7 @@ use Rattle.std.specs.Prelude.{unwrap_or}
 use Rattle.std.specs.List.{list_any, position_from, position_or_len}
 use Rattle.object_core.specs.declared.kinds.StandardSection.{StandardSection}
 use Rattle.ir_core.specs.declared.target.BinaryFormat.{BinaryFormat}
-use Rattle.ir_core.specs.declared.target.BinaryFormat.TheVariants.{Elf}
+use Rattle.ir_core.specs.declared.target.BinaryFormat.TheVariants.{Elf, Coff, Macho, Wasm, Unknown}
 use Rattle.object_core.specs.Object.{SectionData, ObjectData}
 use Rattle.object_core.specs.Places.{end_of, joined}
 use Rattle.object_core.specs.Standard.{standard_name, is_same_shared, empty_standard, empty_standard_in}
@@ -15,7 +15,7 @@ use Rattle.object_core.specs.Appending.{standard_at, with_standard, with_standar
 use Rattle.cranelift_module.specs.Definitions.{Definition}
 use Rattle.cranelift_module.specs.LinkState.{LinkState}
 use Rattle.cranelift_object.specs.Settings.{Settings}
-use Rattle.cranelift_object.specs.SectionClass.{Class, section_class, standard_class, unused_class}
+use Rattle.cranelift_object.specs.SectionClass.{Class, section_class, standard_class, standard_class_in, unused_class}
 use Rattle.cranelift_object.specs.Placing.{Placed, share, sections_used, section_number}
 use Rattle.cranelift_object.specs.Linked.{section_with, is_unstored_class}
 use Rattle.cranelift_object.specs.Product.{empty_class, with_shared_class, with_class, shared_place, class_place}
@@ -72,6 +72,13 @@ section_empty settings s class = ap (λ (contents : List ℕ). record (empty_cla
 
 plain_empty : (standard : StandardSection) → empty_class (standard_class standard false false) ≡ empty_standard standard
 plain_empty standard = ap (λ (name : List ℕ). record (empty_standard standard) { name = name }) (append-nil (standard_name standard))
+
+plain_empty_in : (format : BinaryFormat) (standard : StandardSection) → empty_class (standard_class_in format standard false false) ≡ empty_standard_in format standard
+plain_empty_in Elf standard = plain_empty standard
+plain_empty_in Coff standard = plain_empty standard
+plain_empty_in Macho standard = refl
+plain_empty_in Wasm standard = plain_empty standard
+plain_empty_in Unknown standard = plain_empty standard
 
 -- -- the section of one more definition
 
@@ -134,16 +141,13 @@ standard_of settings s ds standard = shared_from settings s standard 0 0 (sectio
 any_standard : (settings : Settings) (s : LinkState) (ds : List Definition) (class : Class) (standard : StandardSection) → class.shared ≡ Some standard → list_any (λ (c : Class). is_same_shared (Some standard) c.shared) (sections_used (map (section_class settings s) ds)) ≡ list_any (share class) (map (section_class settings s) ds)
 any_standard settings s ds class standard e = ap (λ (shared : Option StandardSection). list_any (λ (c : Class). is_same_shared shared c.shared) (sections_used (map (section_class settings s) ds))) (sym e) ∙ any_used class (map (section_class settings s) ds)
 
-empty_elf : (format : BinaryFormat) (standard : StandardSection) → format ≡ Elf → empty_standard standard ≡ empty_standard_in format standard
-empty_elf format standard e = rw e refl
-
 partial_format : (settings : Settings) (s : LinkState) (ds : List Definition) → (partial settings s ds).format ≡ s.target.triple.binary_format
 unfolding partial
 partial_format settings s ds = refl
 
-opened_shared : (settings : Settings) (s : LinkState) (ds : List Definition) (d : Definition) (standard : StandardSection) → s.target.triple.binary_format ≡ Elf → IsShareable (section_class settings s d) → (section_class settings s d).shared ≡ Some standard → opened settings s ds d ≡ with_standard_section (partial settings s ds) standard
-opened_shared settings s ds d standard format here e =
-    let empty = plain_empty standard ∙ empty_elf (partial settings s ds).format standard (partial_format settings s ds ∙ format) in
+opened_shared : (settings : Settings) (s : LinkState) (ds : List Definition) (d : Definition) (standard : StandardSection) → IsShareable s.target.triple.binary_format (section_class settings s d) → (section_class settings s d).shared ≡ Some standard → opened settings s ds d ≡ with_standard_section (partial settings s ds) standard
+opened_shared settings s ds d standard here e =
+    let empty = plain_empty_in s.target.triple.binary_format standard ∙ ap (λ (f : BinaryFormat). empty_standard_in f standard) (sym (partial_format settings s ds)) in
     let class : Class = section_class settings s d in
     let any = any_standard settings s ds class standard e in
     let test : Class → Bool = λ c. is_same_shared (Some standard) c.shared in
@@ -157,15 +161,15 @@ opened_shared settings s ds d standard format here e =
 
 -- -- by what an object offers
 
-opened_by : (settings : Settings) (s : LinkState) (ds : List Definition) (d : Definition) (shared : Option StandardSection) → s.target.triple.binary_format ≡ Elf → IsShareable (section_class settings s d)
+opened_by : (settings : Settings) (s : LinkState) (ds : List Definition) (d : Definition) (shared : Option StandardSection) → IsShareable s.target.triple.binary_format (section_class settings s d)
     → (section_class settings s d).shared ≡ shared → opened settings s ds d ≡ with_shared_class (partial settings s ds) (section_class settings s d) shared
-opened_by settings s ds d None format here e =
+opened_by settings s ds d None here e =
     opened_new settings s ds d (empty_class (section_class settings s d)) (none_shares (section_class settings s d) (map (section_class settings s) ds) e) (section_empty settings s (section_class settings s d))
-opened_by settings s ds d (Some standard) format here e = opened_shared settings s ds d standard format here e
+opened_by settings s ds d (Some standard) here e = opened_shared settings s ds d standard here e
 
 -- the section of one more definition is that of its class
-pub opened_class : (settings : Settings) (s : LinkState) (ds : List Definition) (d : Definition) → s.target.triple.binary_format ≡ Elf → IsShareable (section_class settings s d) → opened settings s ds d ≡ with_class (partial settings s ds) (section_class settings s d)
-opened_class settings s ds d format here = opened_by settings s ds d (section_class settings s d).shared format here refl
+pub opened_class : (settings : Settings) (s : LinkState) (ds : List Definition) (d : Definition) → IsShareable s.target.triple.binary_format (section_class settings s d) → opened settings s ds d ≡ with_class (partial settings s ds) (section_class settings s d)
+opened_class settings s ds d here = opened_by settings s ds d (section_class settings s d).shared here refl
 
 number_by : (settings : Settings) (s : LinkState) (ds : List Definition) (d : Definition) (shared : Option StandardSection) → (section_class settings s d).shared ≡ shared → shared_place (partial settings s ds) shared ≡ number_behind settings s ds d
 unfolding partial

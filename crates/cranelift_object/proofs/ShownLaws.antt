@@ -6,6 +6,7 @@ use Rattle.std.proofs.lemmas.Bool.{ne_eqb}
 use Rattle.std.proofs.lemmas.List.Sums.{length-filter}
 use Rattle.byte_core.proofs.Lists.{get_left, get_right, get_map, get_filter, get_within}
 use Rattle.ir_core.specs.Target.{Target}
+use Rattle.ir_core.specs.declared.target.BinaryFormat.{BinaryFormat}
 use Rattle.image_read.specs.ElfImage.{ElfImageData, ElfReads}
 use Rattle.object_core.specs.declared.kinds.SymbolKind.TheVariants as kind
 use Rattle.object_core.specs.Object.{SymbolData, is_local, is_global}
@@ -52,48 +53,48 @@ never_zero : (n : ℕ) → (n + 1 == 0) ≡ false
 never_zero n = ne_eqb (n + 1) 0 (λ e. omega (arith, e))
 
 -- a symbol shows the linkage of its identifier
-text_shown : (name : List ℕ) (linkage : Linkage) (at : Option Placed) → Fits linkage at → shown_from (named_symbol name linkage kind.Text at) ≡ linkage
+text_shown : (format : BinaryFormat) (name : List ℕ) (linkage : Linkage) (at : Option Placed) → Fits linkage at → shown_from (named_symbol format name linkage kind.Text at) ≡ linkage
 unfolding shown_from
-text_shown name Import None h = refl
-text_shown name Import (Some p) h = absurd (cc)
-text_shown name Local None h = absurd (cc)
-text_shown name Local (Some p) h = refl
-text_shown name Hidden None h = absurd (cc)
-text_shown name Hidden (Some p) h = refl
-text_shown name Preemptible None h = refl
-text_shown name Preemptible (Some p) h = refl
-text_shown name Export None h = absurd (cc)
-text_shown name Export (Some p) h = rw (never_zero p.section) refl
+text_shown format name Import None h = refl
+text_shown format name Import (Some p) h = absurd (cc)
+text_shown format name Local None h = absurd (cc)
+text_shown format name Local (Some p) h = refl
+text_shown format name Hidden None h = absurd (cc)
+text_shown format name Hidden (Some p) h = refl
+text_shown format name Preemptible None h = refl
+text_shown format name Preemptible (Some p) h = refl
+text_shown format name Export None h = absurd (cc)
+text_shown format name Export (Some p) h = rw (never_zero p.section) refl
 
-data_kind_shown : (name : List ℕ) (linkage : Linkage) (at : Option Placed) → Fits linkage at → shown_from (named_symbol name linkage kind.Data at) ≡ linkage
+data_kind_shown : (format : BinaryFormat) (name : List ℕ) (linkage : Linkage) (at : Option Placed) → Fits linkage at → shown_from (named_symbol format name linkage kind.Data at) ≡ linkage
 unfolding shown_from
-data_kind_shown name Import None h = refl
-data_kind_shown name Import (Some p) h = absurd (cc)
-data_kind_shown name Local None h = absurd (cc)
-data_kind_shown name Local (Some p) h = refl
-data_kind_shown name Hidden None h = absurd (cc)
-data_kind_shown name Hidden (Some p) h = refl
-data_kind_shown name Preemptible None h = refl
-data_kind_shown name Preemptible (Some p) h = refl
-data_kind_shown name Export None h = absurd (cc)
-data_kind_shown name Export (Some p) h = rw (never_zero p.section) refl
+data_kind_shown format name Import None h = refl
+data_kind_shown format name Import (Some p) h = absurd (cc)
+data_kind_shown format name Local None h = absurd (cc)
+data_kind_shown format name Local (Some p) h = refl
+data_kind_shown format name Hidden None h = absurd (cc)
+data_kind_shown format name Hidden (Some p) h = refl
+data_kind_shown format name Preemptible None h = refl
+data_kind_shown format name Preemptible (Some p) h = refl
+data_kind_shown format name Export None h = absurd (cc)
+data_kind_shown format name Export (Some p) h = rw (never_zero p.section) refl
 
-tls_shown : (name : List ℕ) (linkage : Linkage) (at : Option Placed) → Fits linkage at → shown_from (named_symbol name linkage kind.Tls at) ≡ linkage
+tls_shown : (format : BinaryFormat) (name : List ℕ) (linkage : Linkage) (at : Option Placed) → Fits linkage at → shown_from (named_symbol format name linkage kind.Tls at) ≡ linkage
 unfolding shown_from
-tls_shown name Import None h = refl
-tls_shown name Import (Some p) h = absurd (cc)
-tls_shown name Local None h = absurd (cc)
-tls_shown name Local (Some p) h = refl
-tls_shown name Hidden None h = absurd (cc)
-tls_shown name Hidden (Some p) h = refl
-tls_shown name Preemptible None h = refl
-tls_shown name Preemptible (Some p) h = refl
-tls_shown name Export None h = absurd (cc)
-tls_shown name Export (Some p) h = rw (never_zero p.section) refl
+tls_shown format name Import None h = refl
+tls_shown format name Import (Some p) h = absurd (cc)
+tls_shown format name Local None h = absurd (cc)
+tls_shown format name Local (Some p) h = refl
+tls_shown format name Hidden None h = absurd (cc)
+tls_shown format name Hidden (Some p) h = refl
+tls_shown format name Preemptible None h = refl
+tls_shown format name Preemptible (Some p) h = refl
+tls_shown format name Export None h = absurd (cc)
+tls_shown format name Export (Some p) h = rw (never_zero p.section) refl
 
-object_shown : (name : List ℕ) (linkage : Linkage) (tls : Bool) (at : Option Placed) → Fits linkage at → shown_from (named_symbol name linkage (cond tls kind.Tls kind.Data) at) ≡ linkage
-object_shown name linkage true at h = tls_shown name linkage at h
-object_shown name linkage false at h = data_kind_shown name linkage at h
+object_shown : (format : BinaryFormat) (name : List ℕ) (linkage : Linkage) (tls : Bool) (at : Option Placed) → Fits linkage at → shown_from (named_symbol format name linkage (cond tls kind.Tls kind.Data) at) ≡ linkage
+object_shown format name linkage true at h = tls_shown format name linkage at h
+object_shown format name linkage false at h = data_kind_shown format name linkage at h
 
 -- ---- where identifiers are defined
 
@@ -207,12 +208,12 @@ function_shown settings s k row sound ended e =
     let there = function_stands 0 0 (length s.functions) (length s.objects) s.created k sound.order (omega arith) (get_within s.functions k row e) in
     let may : is_defined s (Func k) ≡ true → is_definable row.linkage ≡ true = λ d. let h : MayDefine (linkage_held s (Func k)) = sound.defined (Func k) d in rw e at h in
     let fits : Fits row.linkage (defined_at (placed settings s) (Func k)) = placed_fits settings s (Func k) row.linkage (is_defined s (Func k)) refl may (function_wants s k row ended e) in
-    let symbol : identifier_symbol s (placed settings s) (Func k) ≡ named_symbol (function_name row k) row.linkage kind.Text (defined_at (placed settings s) (Func k)) = ap (function_symbol (placed settings s) k) e in
+    let symbol : identifier_symbol s (placed settings s) (Func k) ≡ named_symbol s.target.triple.binary_format (function_name row k) row.linkage kind.Text (defined_at (placed settings s) (Func k)) = ap (function_symbol s.target.triple.binary_format (placed settings s) k) e in
     record {
       place = there.0;
       at = there.1;
       name = ap (option_map (λ (r : FunctionRow). function_name r k)) e ∙ ap (λ (x : SymbolData). Some x.name) (sym symbol);
-      linkage = ap (option_map (λ (r : FunctionRow). r.linkage)) e ∙ ap (λ l. Some l) (sym (text_shown (function_name row k) row.linkage (defined_at (placed settings s) (Func k)) fits)) ∙ ap (λ x. Some (shown_from x)) (sym symbol);
+      linkage = ap (option_map (λ (r : FunctionRow). r.linkage)) e ∙ ap (λ l. Some l) (sym (text_shown s.target.triple.binary_format (function_name row k) row.linkage (defined_at (placed settings s) (Func k)) fits)) ∙ ap (λ x. Some (shown_from x)) (sym symbol);
     }
 
 data_shown : (settings : Settings) (s : LinkState) (k : ℕ) (row : DataRow) → IsSound s → end_cause s ≡ None → slice_get s.objects k ≡ Some row → Shown s (placed settings s) (Data k)
@@ -220,12 +221,12 @@ data_shown settings s k row sound ended e =
     let there = data_stands 0 0 (length s.functions) (length s.objects) s.created k sound.order (omega arith) (get_within s.objects k row e) in
     let may : is_defined s (Data k) ≡ true → is_definable row.linkage ≡ true = λ d. let h : MayDefine (linkage_held s (Data k)) = sound.defined (Data k) d in rw e at h in
     let fits : Fits row.linkage (defined_at (placed settings s) (Data k)) = placed_fits settings s (Data k) row.linkage (is_defined s (Data k)) refl may (data_wants s k row ended e) in
-    let symbol : identifier_symbol s (placed settings s) (Data k) ≡ named_symbol (data_name row k) row.linkage (cond row.tls kind.Tls kind.Data) (defined_at (placed settings s) (Data k)) = ap (data_symbol (placed settings s) k) e in
+    let symbol : identifier_symbol s (placed settings s) (Data k) ≡ named_symbol s.target.triple.binary_format (data_name row k) row.linkage (cond row.tls kind.Tls kind.Data) (defined_at (placed settings s) (Data k)) = ap (data_symbol s.target.triple.binary_format (placed settings s) k) e in
     record {
       place = there.0;
       at = there.1;
       name = ap (option_map (λ (r : DataRow). data_name r k)) e ∙ ap (λ (x : SymbolData). Some x.name) (sym symbol);
-      linkage = ap (option_map (λ (r : DataRow). r.linkage)) e ∙ ap (λ l. Some l) (sym (object_shown (data_name row k) row.linkage row.tls (defined_at (placed settings s) (Data k)) fits)) ∙ ap (λ x. Some (shown_from x)) (sym symbol);
+      linkage = ap (option_map (λ (r : DataRow). r.linkage)) e ∙ ap (λ l. Some l) (sym (object_shown s.target.triple.binary_format (data_name row k) row.linkage row.tls (defined_at (placed settings s) (Data k)) fits)) ∙ ap (λ x. Some (shown_from x)) (sym symbol);
     }
 
 function_row_shown : (settings : Settings) (s : LinkState) (k : ℕ) (row : Option FunctionRow) (linkage : Linkage) → IsSound s → end_cause s ≡ None → slice_get s.functions k ≡ row → option_map (λ (r : FunctionRow). r.linkage) row ≡ Some linkage

@@ -1,20 +1,22 @@
 -- What holds of every module that can be made.
-use Rattle.std.specs.Prelude.{◌≡◌, ℕ, ◌+◌, ◌<◌, ◌≤◌, ◌^◌, Bool, false, List, [], ◌∷◌, length, slice_index_or, unwrap_or, Option, Some, None}
+use Rattle.std.specs.Prelude.{◌≡◌, ℕ, ◌+◌, ◌<◌, ◌≤◌, ◌^◌, Bool, true, false, List, [], ◌∷◌, length, slice_get, slice_index_or, option_map, unwrap_or, Option, Some, None}
 use Rattle.std.specs.List.{All, list_any}
 use Rattle.ir_core.specs.Moments.{Moment, moments}
-use Rattle.ir_core.specs.declared.target.BinaryFormat.TheVariants.{Elf}
+use Rattle.ir_core.specs.declared.target.BinaryFormat.{BinaryFormat}
+use Rattle.ir_core.specs.declared.target.BinaryFormat.TheVariants.{Macho}
+use Rattle.object_core.specs.WellFormed.{is_supported}
 use Rattle.cranelift_module.specs.declared.identifiers.FuncOrDataId.{FuncOrDataId}
 use Rattle.cranelift_module.specs.declared.identifiers.FuncOrDataId.TheVariants.{Func, Data}
 use Rattle.cranelift_module.specs.Rows.{FunctionRow, DataRow}
 use Rattle.ir_core.specs.Target.{Target}
 use Rattle.cranelift_module.specs.Call.{Contents, bytes, zeros}
 use Rattle.cranelift_module.specs.Definitions.{Definition, size_of}
-use Rattle.cranelift_module.specs.Refusal.{is_same_identifier, zero_byte, bad_reloc, is_bad_align}
+use Rattle.cranelift_module.specs.Refusal.{is_same_identifier, zero_byte, bad_reloc, is_bad_align, section_cause}
 use Rattle.cranelift_object.specs.Opened.{BuilderData, OpenModule}
 
 -- what holds of every builder
 pub record IsBegun (b : BuilderData) : Type 0 where
-  pub format : b.target.triple.binary_format ≡ Elf
+  pub supported : is_supported b.target.triple.architecture b.target.triple.binary_format ≡ true
   pub file_name : zero_byte b.settings.file_name ≡ None
   pub library_names : All (λ (text : List ℕ). zero_byte text ≡ None) b.settings.library_names
 
@@ -40,7 +42,18 @@ pub record IsBody (target : Target) (functions objects : ℕ) (d : Definition) :
   pub aligned : is_bad_align d.align ≡ false
   pub judged : bad_reloc target d.contents d.relocs ≡ None
   pub text : zero_byte (unwrap_or d.section []) ≡ None
+  pub section : section_cause target.triple.binary_format (Some d.contents) d.section ≡ None
   pub plain : IsPlainBody d.identifier d.contents d.section d.used
+
+-- an identifier of a function, or of data that isn't thread-local
+abbrev pub IsPlain : List DataRow → FuncOrDataId → Type 0
+IsPlain objects (Func k) = Unit {0}
+IsPlain objects (Data k) = option_map (λ (row : DataRow). row.tls) (slice_get objects k) ≡ Some false
+
+-- in Mach-O what is defined is a function, or data that isn't thread-local
+abbrev pub HasPlaceIn : BinaryFormat → List DataRow → FuncOrDataId → Type 0
+HasPlaceIn Macho objects id = IsPlain objects id
+HasPlaceIn _ objects id = Unit {0}
 
 -- a name has no zero byte
 abbrev pub IsName : Option (List ℕ) → Type 0
@@ -70,6 +83,7 @@ pub record IsModule (o : OpenModule) (marks : Marks) : Type 0 where
   pub few_objects : length o.state.objects ≤ 4294967295
   pub order : IsNumbered 0 0 o.state.created (length o.state.functions) (length o.state.objects)
   pub bodies : All (IsBody o.state.target (length o.state.functions) (length o.state.objects)) o.state.definitions
+  pub placed : All (λ (d : Definition). HasPlaceIn o.state.target.triple.binary_format o.state.objects d.identifier) o.state.definitions
   pub apart : All IsFirst (moments o.state.definitions)
   pub marked : length marks.functions ≡ length o.state.functions
   pub marking : (k : ℕ) → slice_index_or marks.functions k false ≡ list_any (λ (d : Definition). is_same_identifier (Func k) d.identifier) o.state.definitions

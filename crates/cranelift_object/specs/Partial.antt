@@ -1,5 +1,5 @@
 -- The object of a state with its first definitions alone.
-use Rattle.std.specs.Prelude.{ℕ, ◌+◌, List, [], ◌∷◌, ◌++◌, map, None, sum_by}
+use Rattle.std.specs.Prelude.{ℕ, ◌+◌, List, [], ◌∷◌, ◌++◌, map, sum_by}
 use Rattle.std.specs.List.{enumerate_from}
 use Rattle.ir_core.specs.Moments.{moments}
 use Rattle.object_core.specs.Object.{SectionData, ObjectData}
@@ -7,6 +7,7 @@ use Rattle.object_core.specs.Appending.{file_symbol}
 use Rattle.cranelift_module.specs.Definitions.{Definition}
 use Rattle.cranelift_module.specs.LinkState.{LinkState}
 use Rattle.cranelift_object.specs.Settings.{Settings}
+use Rattle.cranelift_object.specs.BuildVersion.{file_version}
 use Rattle.cranelift_object.specs.SectionClass.{Class, section_class}
 use Rattle.cranelift_object.specs.Placing.{Placed, placed_at, sections_used, section_number, align_of, room_of}
 use Rattle.cranelift_object.specs.Linked.{section_with, members, identifier_symbol, file_flags}
@@ -26,7 +27,7 @@ partial_with settings s classes ds =
       format = s.target.triple.binary_format;
       architecture = s.target.triple.architecture;
       e_flags = file_flags s.target.triple.architecture s.target.flags;
-      build_version = None;
+      build_version = file_version s.target.triple.binary_format s.target.triple;
       sections = sections_from settings s 0 (sections_used classes) (placed_of settings s ds);
       symbols = file_symbol settings.file_name ∷ map (identifier_symbol s (placed_of settings s ds)) s.created;
       content_sum = sum_by (λ d. room_of s d + align_of s d) ds;

@@ -1,12 +1,11 @@
 -- What a finished module gives.
-use Rattle.std.specs.Prelude.{◌≡◌, ℕ, ◌+◌, Bool, List, [], ◌∷◌, ◌++◌, map, length, unwrap_or, Option, Some, None, if◌then◌else◌}
+use Rattle.std.specs.Prelude.{◌≡◌, ℕ, ◌+◌, Bool, true, List, [], ◌∷◌, ◌++◌, map, length, unwrap_or, Option, Some, None, if◌then◌else◌}
 use Rattle.std.specs.List.{enumerate_from, position_or_len}
 use Rattle.object_core.specs.declared.kinds.StandardSection.{StandardSection}
 use Rattle.object_core.specs.declared.relocation.Relocation.{Relocation}
 use Rattle.object_core.specs.Standard.{empty_section}
-use Rattle.ir_core.specs.declared.target.BinaryFormat.TheVariants.{Elf}
-use Rattle.object_core.specs.Object.{SectionData, ObjectData}
-use Rattle.object_core.specs.WellFormed.{IsFormedElf}
+use Rattle.object_core.specs.Object.{SymbolData, SectionData, ObjectData}
+use Rattle.object_core.specs.WellFormed.{IsFormed}
 use Rattle.object_core.specs.Appending.{empty_object, with_symbol, file_symbol, with_standard_section, standard_at, with_symbol_data, with_symbol_bss, changed_at}
 use Rattle.cranelift_module.specs.declared.identifiers.FuncOrDataId.{FuncOrDataId}
 use Rattle.cranelift_module.specs.declared.identifiers.FuncOrDataId.TheVariants.{Func, Data}
@@ -17,6 +16,7 @@ use Rattle.cranelift_module.specs.Rows.{FunctionRow, DataRow}
 use Rattle.cranelift_module.specs.LinkState.{LinkState}
 use Rattle.cranelift_module.specs.Refusal.{is_same_identifier, is_defined}
 use Rattle.cranelift_object.specs.Settings.{Settings}
+use Rattle.cranelift_object.specs.BuildVersion.{file_version}
 use Rattle.cranelift_object.specs.Opened.{ProductData}
 use Rattle.cranelift_object.specs.Linked.{object_of, file_flags}
 
@@ -48,16 +48,22 @@ AreMarks s functions objects = (functions ≡ function_marks s) × (objects ≡ 
 abbrev pub product_of : Settings → LinkState → ProductData
 product_of settings s = record { object = object_of settings s; functions = function_marks s; data_objects = data_marks s }
 
--- an object that has an ELF file
+-- an object that has a file of its format
 pub record IsWritable (o : ObjectData) : Type 0 where
-  pub format : o.format ≡ Elf
-  pub formed : IsFormedElf o
+  pub formed : IsFormed o
 
 -- -- on the way to it
 
+-- the object of a target without sections and symbols
+abbrev pub fresh_object : LinkState → ObjectData
+fresh_object s =
+    record (empty_object s.target.triple.binary_format s.target.triple.architecture (file_flags s.target.triple.architecture s.target.flags)) {
+      build_version = file_version s.target.triple.binary_format s.target.triple;
+    }
+
 -- the object with the symbol of the file's name alone
 abbrev pub begun_object : Settings → LinkState → ObjectData
-begun_object settings s = with_symbol (empty_object s.target.triple.binary_format s.target.triple.architecture (file_flags s.target.triple.architecture s.target.flags)) (file_symbol settings.file_name)
+begun_object settings s = with_symbol (fresh_object s) (file_symbol settings.file_name)
 
 -- a section of a class, in which nothing is yet
 abbrev pub empty_class : Class → SectionData
@@ -85,6 +91,14 @@ class_place o class = shared_place o class.shared
 abbrev pub with_symbol_contents : Bool → ObjectData → ℕ → ℕ → Contents → ℕ → ObjectData
 with_symbol_contents unstored o symbol section contents align =
     if unstored then with_symbol_bss o symbol section (size_of contents) align else with_symbol_data o symbol section (contents_of contents) align
+
+-- a symbol that the linker keeps
+abbrev pub kept_symbol : SymbolData → SymbolData
+kept_symbol s = record s { no_dead_strip = true }
+
+-- an object of which the linker keeps the symbol of this number, where it is marked
+abbrev pub with_kept : Bool → ObjectData → ℕ → ObjectData
+with_kept marked o symbol = if marked then record o { symbols = changed_at symbol kept_symbol o.symbols } else o
 
 -- a section with more relocations, behind the others
 abbrev pub relocated_by : List Relocation → SectionData → SectionData

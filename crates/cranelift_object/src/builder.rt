@@ -7,7 +7,7 @@ ghost use Rattle.cranelift_object.specs.Kept.{IsBegun};
 ghost use Rattle.cranelift_object.specs.Extras.{text_of};
 ghost use Rattle.cranelift_module.specs.LibraryNames.{library_place};
 ghost use Rattle.std.specs.List.{position_or_len, position_from};
-ghost use Rattle.cranelift_object.specs.Part.{start_cause, is_mach_o};
+ghost use Rattle.cranelift_object.specs.Part.{start_cause};
 
 use cranelift_module::{BackendCause, LibcallNames, ModuleError, ModuleResult, check_no_zero_byte};
 use ir_core::{LibCall, TargetIsa};
@@ -45,15 +45,14 @@ impl Model for ObjectBuilder {
 
 impl ObjectBuilder {
     /// Settings with both options off. A target that isn't built, a zero byte in the file's name and one in a text of
-    /// a library call are refused. Mach-O for x86_64 and aarch64 comes with a later stage.
-    #[tactic(auto, using(crate::proofs::KeptLaws::supported_elf, crate::proofs::TextLaws::texts_free), unfolding(crate::specs::Part::start_cause))]
+    /// a library call are refused.
+    #[tactic(auto, using(crate::proofs::TextLaws::texts_free), unfolding(crate::specs::Part::start_cause))]
     pub fn new(
         alloc: Global,
         isa: TargetIsa,
         name: &[u8],
         libcall_names: LibcallNames,
     ) -> ModuleResult<Self>
-        requires { is_mach_o isa.triple.architecture isa.triple.binary_format ≡ false }
         ensures ok { IfOk result (λ b. b ≡ record { settings = plain_settings name.now libcall_names; target = isa }) }
         ensures none { OnOk result (start_cause (plain_settings name.now libcall_names) isa ≡ None) }
         ensures cause { IfErr result (λ e. Tells e (start_cause (plain_settings name.now libcall_names) isa)) }

@@ -1,35 +1,39 @@
 //! From a module to its object.
 
-ghost use Rattle.std.specs.Prelude.{if◌then◌else◌, ◌≡◌, ℕ, ◌<◌, ◌^◌, ◌+◌, ◌++◌, [], true, false, length, map, take, slice_get, option_map, Some, None, IfOk, IfErr, OnOk};
+ghost use Rattle.std.specs.Prelude.{if◌then◌else◌, ◌≡◌, ℕ, Bool, ◌<◌, ◌^◌, ◌+◌, ◌++◌, [], true, false, length, map, take, slice_get, option_map, unwrap_or, Some, None, IfOk, IfErr, OnOk};
 ghost use Rattle.std.specs.List.{All, list_any};
 ghost use Rattle.std.specs.Int.{is_power_of_two};
-ghost use Rattle.cranelift_module.specs.Refusal.{Tells, is_defined};
+ghost use Rattle.cranelift_module.specs.Refusal.{Tells, is_defined, are_bytes};
 ghost use Rattle.cranelift_module.specs.declared.reloc.ModuleRelocTarget.TheVariants.{FunctionOffset};
 ghost use Rattle.cranelift_object.specs.EndCause.{end_cause, first_missing_function, first_missing_data, first_bad_reference, first_bad_target, target_cause, is_declared, HasTarget, function_missing, data_missing};
 ghost use Rattle.cranelift_object.specs.Extras.{AreExtras};
-ghost use Rattle.cranelift_object.specs.SectionClass.{section_class, unused_class, has_own_section, standard_section, data_section, initialized_section, custom_kind, is_counted};
-ghost use Rattle.cranelift_object.specs.Linked.{object_of, identifier_symbol, linked_symbol, scope_of, file_flags, turns_compression_off, object_relocation};
-ghost use Rattle.ir_core.specs.declared.target.BinaryFormat.TheVariants.{Elf};
+ghost use Rattle.cranelift_object.specs.Linked.{object_of, identifier_symbol, declared_symbol, scope_of, file_flags, turns_compression_off, object_relocation, relocation_flags, mach_flags_of, marks_symbol};
+ghost use Rattle.cranelift_module.specs.Call.{bytes};
+ghost use Rattle.cranelift_module.specs.Init.{init_view};
 ghost use Rattle.object_core.specs.declared.kinds.SymbolKind.TheVariants as SymbolKind;
-ghost use Rattle.object_core.specs.Appending.{with_symbol, IsUndefined, is_unstored, next_offset};
+ghost use Rattle.object_core.specs.Appending.{with_symbol, IsUndefined, HasBytes, is_unstored, next_offset};
 ghost use Rattle.cranelift_module.specs.declared.identifiers.FuncOrDataId.TheVariants.{Func, Data};
 ghost use Rattle.cranelift_object.specs.Kept.{IsDeclared};
-ghost use Rattle.cranelift_object.specs.Product.{begun_object, function_marks, data_marks, AreMarks, symbol_number, product_of, with_class, class_place, with_symbol_contents, with_relocations};
+ghost use Rattle.cranelift_object.specs.Product.{begun_object, function_marks, data_marks, AreMarks, symbol_number, product_of, fresh_object, with_symbol_contents, with_kept, with_relocations};
 ghost use Rattle.cranelift_object.specs.Partial.{partial};
 ghost use Rattle.cranelift_object.specs.Placing.{align_of};
 ghost use Rattle.cranelift_object.specs.Marking.{with_symbols, marks_of_functions, marks_of_objects};
 
+use crate::build_version::file_version;
 use crate::definition::Definition;
 use crate::extras::Extras;
+use crate::sections::is_unstored;
 use crate::{ObjectModule, ObjectProduct};
 use cranelift_module::{
     DataDeclaration, DataId, FuncId, FuncOrDataId, FunctionDeclaration, Init, Linkage, Module,
     ModuleError, ModuleReloc, ModuleRelocTarget, ModuleResult,
 };
-use ir_core::{Architecture, Flag, TargetIsa, elf_number};
+use ir_core::{
+    Architecture, BinaryFormat, Flag, MachNumber, Reloc, TargetIsa, elf_number, mach_number,
+};
 use object_core::{
-    Object, Relocation, RelocationFlags, SectionId, SectionKind, StandardSection, Symbol, SymbolId,
-    SymbolKind, SymbolScope, SymbolSection,
+    Object, Relocation, RelocationFlags, SectionId, Symbol, SymbolId, SymbolKind, SymbolScope,
+    SymbolSection,
 };
 use std::alloc::{AllocError, Global};
 
@@ -211,6 +215,15 @@ impl ObjectModule {
     fn begun_object(&self) -> Result<Object, AllocError>
         ensures { IfOk result (λ object. object ≡ begun_object (self.now).settings (self.now).state) }
     {
+        let mut object = self.fresh_object();
+        object.add_file_symbol(self.builder.name())?;
+        Ok(object)
+    }
+
+    // The object of the target without sections and symbols.
+    fn fresh_object(&self) -> Object
+        ensures { result ≡ fresh_object (self.now).state }
+    {
         let isa = self.builder.isa();
         let triple = isa.triple();
         let mut object = Object::new(
@@ -219,8 +232,13 @@ impl ObjectModule {
             triple.architecture,
             file_flags(isa),
         );
-        object.add_file_symbol(self.builder.name())?;
-        Ok(object)
+        match file_version(triple) {
+            Some(version) => {
+                object.set_macho_build_version(version);
+                object
+            }
+            None => object,
+        }
     }
 
     // Adds an undefined symbol for each identifier in order of creation. The answer is the symbol of each function and
@@ -277,7 +295,7 @@ impl ObjectModule {
     {
         let function = self.declarations.get_function_decl(id);
         let name = function.linkage_name(self.builder.alloc(), id)?;
-        let symbol = linked_symbol(function.linkage(), SymbolKind::Text);
+        let symbol = declared_symbol(function.linkage(), SymbolKind::Text);
         let symbol = object.add_symbol(name.as_str().as_bytes(), symbol)?;
         Ok((symbol, self.is_defined(id)))
     }
@@ -290,7 +308,7 @@ impl ObjectModule {
     {
         let data = self.declarations.get_data_decl(id);
         let name = data.linkage_name(self.builder.alloc(), id)?;
-        let symbol = linked_symbol(data.linkage(), data_kind(data.tls()));
+        let symbol = declared_symbol(data.linkage(), data_kind(data.tls()));
         let symbol = object.add_symbol(name.as_str().as_bytes(), symbol)?;
         Ok((symbol, self.is_object_defined(id)))
     }
@@ -346,65 +364,6 @@ impl ObjectModule {
         definition
             .align()
             .max(self.builder.isa().symbol_alignment())
-    }
-
-    // Sees to it that there is a section for a definition.
-    fn open_section(
-        &self,
-        object: &mut Object,
-        definition: &Definition,
-    ) -> Result<SectionId, AllocError>
-        requires format { object.old.format ≡ Elf }
-        requires used { (definition.now).used ≡ true → (section_class (self.now).settings (self.now).state definition.now).shared ≡ None }
-        ensures opened { OnOk result (object.new ≡ with_class object.old (section_class (self.now).settings (self.now).state definition.now)) }
-        ensures id { IfOk result (λ id. id ≡ class_place object.old (section_class (self.now).settings (self.now).state definition.now)) }
-    {
-        let section = self.add_section(object, definition)?;
-        if definition.used() {
-            object.set_retain(section);
-        }
-        Ok(section)
-    }
-
-    // Sees to it that there is a section for a definition, without the mark that the linker keeps it.
-    fn add_section(
-        &self,
-        object: &mut Object,
-        definition: &Definition,
-    ) -> Result<SectionId, AllocError>
-        requires { object.old.format ≡ Elf }
-        ensures opened { OnOk result (object.new ≡ with_class object.old (unused_class (section_class (self.now).settings (self.now).state definition.now))) }
-        ensures id { IfOk result (λ id. id ≡ class_place object.old (section_class (self.now).settings (self.now).state definition.now)) }
-    {
-        if let Some(text) = definition.section() {
-            return object.add_section(&[], text.as_bytes(), custom_kind(definition), 0);
-        }
-        let standard = self.standard_section(definition);
-        if self.has_own_section(definition) {
-            object.add_subsection(standard)
-        } else {
-            object.section_id(standard)
-        }
-    }
-
-    // Whether a definition without a section text has a section of its own.
-    fn has_own_section(&self, definition: &Definition) -> bool
-        ensures { result ≡ has_own_section (self.now).settings definition.now (definition.now).identifier }
-    {
-        match definition.identifier() {
-            FuncOrDataId::Func(_) => self.builder.function_sections(),
-            FuncOrDataId::Data(_) => self.builder.data_sections() || definition.used(),
-        }
-    }
-
-    // The standard section of a definition.
-    fn standard_section(&self, definition: &Definition) -> StandardSection
-        ensures { result ≡ standard_section (self.now).state definition.now (definition.now).identifier }
-    {
-        match definition.identifier() {
-            FuncOrDataId::Func(_) => StandardSection::Text,
-            FuncOrDataId::Data(object) => data_section(self.is_thread_local(object), definition),
-        }
     }
 
     // The symbol of an identifier.
@@ -481,19 +440,19 @@ impl ObjectModule {
         let Ok(place) = u64::try_from(offset + u128::from(reloc.offset)) else {
             return Err(AllocError);
         };
-        let architecture = self.builder.isa().triple().architecture;
+        let triple = self.builder.isa().triple();
+        let flags = relocation_flags(triple.binary_format, triple.architecture, reloc.kind);
         Ok(Relocation {
             offset: place,
             symbol: self.target_symbol(symbols, extras, reloc.name),
-            flags: RelocationFlags::Elf {
-                r_type: elf_number(architecture, reloc.kind).unwrap_or(0),
-            },
+            flags,
             addend: reloc.addend,
         })
     }
 }
 
-// Puts the contents of a definition behind those of its section, and its symbol there. The answer is their offset.
+// Puts the contents of a definition behind those of its section, and its symbol there, with the mark that the linker
+// keeps it. The answer is their offset.
 fn add_contents(
     object: &mut Object,
     symbol: SymbolId,
@@ -503,57 +462,108 @@ fn add_contents(
 ) -> Result<u128, AllocError>
     requires power { is_power_of_two align ≡ true }
     requires symbol { IsUndefined object.old symbol }
-    requires section { option_map (is_unstored object.old.format) (slice_get object.old.sections section) ≡ Some (is_counted definition.now) }
+    requires section { section < length object.old.sections }
+    requires stored { are_bytes (Some (definition.now).contents) ≡ true → HasBytes object.old section }
     requires sum { object.old.content_sum < 2 ^ 127 + 2 ^ 126 }
     ensures offset { IfOk result (λ offset. offset ≡ next_offset object.old section align) }
-    ensures ok { OnOk result (object.new ≡ with_symbol_contents (is_counted definition.now) object.old symbol section (definition.now).contents align) }
+    ensures ok { (unstored : Bool) → option_map (is_unstored object.old.format) (slice_get object.old.sections section) ≡ Some unstored → OnOk result (object.new ≡ with_kept (marks_symbol object.old.format (definition.now).used) (with_symbol_contents unstored object.old symbol section (definition.now).contents align) symbol) }
 {
-    match definition.contents() {
+    let unstored = is_unstored(object, section);
+    let marked = marks_symbol(object.format(), definition.used());
+    let offset = put_contents(
+        object,
+        symbol,
+        section,
+        unstored,
+        definition.contents(),
+        align,
+    )?;
+    keep_symbol(object, symbol, marked);
+    Ok(offset)
+}
+
+// Puts contents behind those of a section that takes bytes of the file or none, and a symbol there. The answer is their
+// offset.
+fn put_contents(
+    object: &mut Object,
+    symbol: SymbolId,
+    section: SectionId,
+    unstored: bool,
+    contents: &Init,
+    align: u64,
+) -> Result<u128, AllocError>
+    requires power { is_power_of_two align ≡ true }
+    requires symbol { IsUndefined object.old symbol }
+    requires section { option_map (is_unstored object.old.format) (slice_get object.old.sections section) ≡ Some unstored }
+    requires stored { are_bytes (Some (unwrap_or (init_view contents.now) (bytes []))) ≡ true → unstored ≡ false }
+    requires sum { object.old.content_sum < 2 ^ 127 + 2 ^ 126 }
+    ensures offset { IfOk result (λ offset. offset ≡ next_offset object.old section align) }
+    ensures ok { OnOk result (object.new ≡ with_symbol_contents unstored object.old symbol section (unwrap_or (init_view contents.now) (bytes [])) align) }
+{
+    match contents {
         Init::Uninitialized => object.add_symbol_data(symbol, section, &[], align),
         Init::Bytes { contents } => object.add_symbol_data(symbol, section, contents, align),
         Init::Zeros { size } => {
-            if definition.section().is_some() {
-                object.add_symbol_zeros(symbol, section, *size as u64, align)
-            } else {
+            if unstored {
                 object.add_symbol_bss(symbol, section, *size as u64, align)
+            } else {
+                object.add_symbol_zeros(symbol, section, *size as u64, align)
             }
         }
     }
 }
 
-// The standard section of data.
-fn data_section(tls: bool, definition: &Definition) -> StandardSection
-    ensures { result ≡ data_section tls definition.now (definition.now).contents }
+// Marks a symbol as one that the linker keeps, where it is to be marked.
+fn keep_symbol(object: &mut Object, symbol: SymbolId, marked: bool)
+    requires { symbol < length object.old.symbols }
+    ensures { object.new ≡ with_kept marked object.old symbol }
 {
-    match (definition.contents(), tls) {
-        (Init::Zeros { .. }, true) => StandardSection::UninitializedTls,
-        (Init::Zeros { .. }, false) => StandardSection::UninitializedData,
-        (_, true) => StandardSection::Tls,
-        (_, false) => initialized_section(definition.writable(), definition.relocs().is_empty()),
+    if marked {
+        object.symbol_mut(symbol).no_dead_strip = true;
     }
 }
 
-// The standard section of initialized data that is not thread-local.
-fn initialized_section(writable: bool, plain: bool) -> StandardSection
-    ensures { result ≡ initialized_section writable plain }
+// Whether the symbol of a definition says that the linker keeps it.
+fn marks_symbol(format: BinaryFormat, used: bool) -> bool
+    ensures { result ≡ marks_symbol format used }
 {
-    if writable {
-        StandardSection::Data
-    } else if plain {
-        StandardSection::ReadOnlyData
-    } else {
-        StandardSection::ReadOnlyDataWithRel
+    match format {
+        BinaryFormat::Macho => used,
+        _ => false,
     }
 }
 
-// The kind of a section under a text of its own.
-fn custom_kind(definition: &Definition) -> SectionKind
-    ensures { result ≡ custom_kind definition.now }
+// The kind of a relocation as a file of the format has it.
+fn relocation_flags(
+    format: BinaryFormat,
+    architecture: Architecture,
+    kind: Reloc,
+) -> RelocationFlags
+    ensures { result ≡ relocation_flags format architecture kind }
 {
-    if !definition.writable() && definition.relocs().is_empty() {
-        SectionKind::ReadOnlyData
-    } else {
-        SectionKind::Data
+    match format {
+        BinaryFormat::Macho => mach_flags(mach_number(architecture, kind)),
+        _ => RelocationFlags::Elf {
+            r_type: elf_number(architecture, kind).unwrap_or(0),
+        },
+    }
+}
+
+// The numbers of a kind in a Mach-O file.
+fn mach_flags(number: Option<MachNumber>) -> RelocationFlags
+    ensures { result ≡ mach_flags_of number }
+{
+    match number {
+        Some(number) => RelocationFlags::MachO {
+            r_type: number.r_type,
+            r_pcrel: number.pcrel,
+            r_length: number.length,
+        },
+        None => RelocationFlags::MachO {
+            r_type: 0,
+            r_pcrel: false,
+            r_length: 0,
+        },
     }
 }
 
@@ -569,8 +579,8 @@ fn data_kind(tls: bool) -> SymbolKind
 }
 
 // The symbol of an identifier before it is defined.
-fn linked_symbol(linkage: Linkage, kind: SymbolKind) -> Symbol
-    ensures { result ≡ linked_symbol linkage kind None }
+fn declared_symbol(linkage: Linkage, kind: SymbolKind) -> Symbol
+    ensures { result ≡ declared_symbol linkage kind }
 {
     Symbol {
         value: 0,

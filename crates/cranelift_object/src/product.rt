@@ -1,15 +1,14 @@
 //! What a finished module gives.
 
 ghost use Rattle.std.specs.Prelude.{◌≡◌, ◌<◌, ℕ, Bool, Some, IfOk, length, slice_get, option_map};
-ghost use Rattle.object_core.specs.ElfRows.{elf_table_of};
-ghost use Rattle.object_elf.specs.ElfHolds.{ElfHolds};
-ghost use Rattle.object_elf.specs.Limits.{IsJudged};
-ghost use Rattle.cranelift_object.specs.Part.{counts_of};
+ghost use Rattle.cranelift_object.specs.Emitted.{IsObjectFile, IsJudgedIn};
 ghost use Rattle.cranelift_object.specs.Product.{IsWritable};
 
 use cranelift_module::{DataId, FuncId};
+use ir_core::BinaryFormat;
 use object_core::{EmitError, Object, SymbolId};
 use object_elf::emit_elf;
+use object_macho::emit_macho;
 use std::alloc::Global;
 use std::marker::Model;
 
@@ -51,11 +50,16 @@ impl ObjectProduct {
 
     /// The bytes of the object's file. They hold exactly the link table of the object. The first limit of the format
     /// that is reached is refused.
+    #[tactic(auto, using(crate::proofs::FormatLaws::formed_elf, crate::proofs::FormatLaws::formed_macho))]
     pub fn emit(self, alloc: Global) -> Result<Vec<u8>, EmitError>
-        ensures holds { IfOk result (λ file. ElfHolds file.items (elf_table_of self.object)) }
-        ensures limits { IsJudged result (counts_of self.object) }
+        ensures holds { IfOk result (λ file. IsObjectFile self.object file.items) }
+        ensures limits { IsJudgedIn (self.object).format result self.object }
     {
-        emit_elf(alloc, &self.object)
+        match self.object.format() {
+            BinaryFormat::Elf => emit_elf(alloc, &self.object),
+            BinaryFormat::Macho => emit_macho(alloc, &self.object),
+            _ => unreachable!(),
+        }
     }
 
     /// The object.

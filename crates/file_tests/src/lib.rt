@@ -4,4 +4,6 @@
 #[cfg(test)]
 mod elf_tests;
 #[cfg(test)]
+mod mach_module_tests;
+#[cfg(test)]
 mod module_tests;

@@ -1,5 +1,4 @@
 ghost use Rattle.std.specs.Prelude.{◌≡◌, ◌≤◌, ◌<◌, ◌+◌, [], false, length, IfOk};
-ghost use Rattle.cranelift_object.specs.Part.{is_mach_o};
 
 use cranelift_module::{
     DataDescription, DataId, FuncId, FuncOrDataId, Linkage, Module, ModuleError, ModuleReloc,
@@ -14,9 +13,7 @@ use std::alloc::{AllocError, Global};
 use std::process::Abort;
 use std::test::Fail;
 
-fn target(alloc: Global, architecture: Architecture) -> TargetIsa
-    ensures { is_mach_o result.triple.architecture result.triple.binary_format ≡ false }
-{
+fn target(alloc: Global, architecture: Architecture) -> TargetIsa {
     let triple = Triple {
         architecture,
         binary_format: BinaryFormat::Elf,

@@ -1,19 +1,13 @@
 -- The first cause of a part, found step by step, and the errors that tell it.
-use Rattle.std.proofs.Common.{◌≡◌, ℕ, ◌+◌, ◌<◌, Bool, true, false, not, List, [], ◌∷◌, map, length, count_by, arith, Option, Some, None, option_map, IfSome, refl, ap, sym, ◌∙◌, subst}
+use Rattle.std.proofs.Common.{◌≡◌, ℕ, ◌+◌, ◌<◌, List, [], ◌∷◌, length, count_by, arith, Option, Some, None, option_map, IfSome, refl, ap, sym, ◌∙◌, subst}
 use Rattle.std.specs.Option.{IsSomeAnd, IsSome}
 use Rattle.std.proofs.lemmas.List.Sums.{count_by-le-length}
 use Rattle.object_core.specs.declared.error.EmitError.{EmitError}
 use Rattle.object_core.specs.declared.error.EmitError.TheVariants as limits
-use Rattle.object_elf.specs.ElfHolds.{ElfHolds}
-use Rattle.object_elf.specs.Limits.{limit_cause, TellsLimit}
-use Rattle.object_core.specs.ElfRows.{elf_table_of}
-use Rattle.object_core.specs.Tables.{table_in}
-use Rattle.ir_core.specs.declared.target.BinaryFormat.{BinaryFormat}
-use Rattle.ir_core.specs.declared.target.BinaryFormat.TheVariants.{Elf}
+use Rattle.object_core.specs.Limits.{TellsLimit}
 use Rattle.cranelift_module.specs.declared.error.ModuleError.{ModuleError}
 use Rattle.cranelift_module.specs.LinkState.{state_of, steps}
-use Rattle.cranelift_module.specs.declared.error.BackendCause.TheVariants.{UnsupportedTarget}
-use Rattle.cranelift_module.specs.Refusal.{Refusal, refusal_told, Tells, first_cause, refuse_if, backend, zero_byte}
+use Rattle.cranelift_module.specs.Refusal.{Refusal, refusal_told, Tells}
 use Rattle.ir_core.specs.Target.{Target}
 use Rattle.ir_core.specs.Moments.{moments}
 use Rattle.object_core.specs.Object.{ObjectData}
@@ -24,8 +18,8 @@ use Rattle.cranelift_object.specs.Opened.{OpenModule}
 use Rattle.cranelift_object.specs.Commands.{first_refusal, TellsAt, makes_function, makes_data}
 use Rattle.cranelift_object.specs.EndCause.{end_cause}
 use Rattle.cranelift_object.specs.Linked.{object_of, link_table}
-use Rattle.cranelift_object.specs.Part.{PartData, PartRefusal, at_start, at_call, at_end, over, start_cause, first_refused, part_cause, part_state, counts, counts_of, is_supported, is_mach_o}
-use Rattle.cranelift_object.proofs.KeptLaws.{supported_elf}
+use Rattle.cranelift_object.specs.Part.{PartData, PartRefusal, at_start, at_call, at_end, over, start_cause, first_refused, part_cause, part_state, limit_of}
+use Rattle.cranelift_object.specs.Emitted.{IsObjectFile}
 use Rattle.image_build.specs.Built.{FileHolds, commands, build_cause, TellsBuild, TellsPlace, TellsCause, TellsOver}
 use Rattle.image_build.specs.declared.error.BuildCause.{BuildCause}
 use Rattle.image_build.specs.declared.error.BuildCause.TheVariants.{Module, TooMany, TooLarge, Mixed, OutOfMemory}
@@ -60,11 +54,11 @@ cause_end : (part : PartData) (r : Refusal) → IsApplied part → end_cause (pa
 unfolding part_cause
 cause_end part r h f = rw (h.start, calls_free part h.calls, f) refl
 
-cause_over : (part : PartData) (l : EmitError) → IsFinished part → limit_cause (counts part.settings (part_state part)) ≡ Some l → part_cause part ≡ Some (over l)
+cause_over : (part : PartData) (l : EmitError) → IsFinished part → limit_of (object_of part.settings (part_state part)) ≡ Some l → part_cause part ≡ Some (over l)
 unfolding part_cause
 cause_over part l h f = rw (h.start, calls_free part h.calls, h.ended, f) refl
 
-cause_none : (part : PartData) → IsFinished part → limit_cause (counts part.settings (part_state part)) ≡ None → part_cause part ≡ None
+cause_none : (part : PartData) → IsFinished part → limit_of (object_of part.settings (part_state part)) ≡ None → part_cause part ≡ None
 unfolding part_cause
 cause_none part h f = rw (h.start, calls_free part h.calls, h.ended, f) refl
 
@@ -124,10 +118,10 @@ tells_call part e c j o t h = call_told e c j (first_refusal (state_of part.targ
 pub tells_end : (part : PartData) (e : ModuleError) (c : BuildCause) → IsApplied part → TellsCause e c → Tells e (end_cause (part_state part)) → TellsBuild (record { part = 0; place = End; cause = c }) (build_cause (commands part ∷ []))
 tells_end part e c o t h = end_told e c (end_cause (part_state part)) _ t h (λ r k. refused_by part (at_end r) (cause_end part r o k))
 
-pub tells_over : (part : PartData) (e : EmitError) (c : BuildCause) → IsFinished part → TellsOver e c → TellsLimit e (limit_cause (counts part.settings (part_state part))) → TellsBuild (record { part = 0; place = End; cause = c }) (build_cause (commands part ∷ []))
-tells_over part e c o t h = over_told e c (limit_cause (counts part.settings (part_state part))) _ t h (λ l k. refused_by part (over l) (cause_over part l o k))
+pub tells_over : (part : PartData) (e : EmitError) (c : BuildCause) → IsFinished part → TellsOver e c → TellsLimit e (limit_of (object_of part.settings (part_state part))) → TellsBuild (record { part = 0; place = End; cause = c }) (build_cause (commands part ∷ []))
+tells_over part e c o t h = over_told e c (limit_of (object_of part.settings (part_state part))) _ t h (λ l k. refused_by part (over l) (cause_over part l o k))
 
-pub valid_part : (part : PartData) → IsFinished part → limit_cause (counts part.settings (part_state part)) ≡ None → build_cause (commands part ∷ []) ≡ None
+pub valid_part : (part : PartData) → IsFinished part → limit_of (object_of part.settings (part_state part)) ≡ None → build_cause (commands part ∷ []) ≡ None
 valid_part part o h = rw (cause_none part o h) refl
 
 -- the state that a part's accepted calls leave
@@ -186,25 +180,13 @@ finished part m left h = record { start = left.passed.start; calls = left.passed
 same_object : (part : PartData) (m : OpenModule) (o : ObjectData) → IsLeft part m → o ≡ object_of m.settings m.state → o ≡ object_of part.settings (part_state part)
 same_object part m o left h = h ∙ rw (left.settings, left.state) refl
 
-pub part_over : (part : PartData) (m : OpenModule) (o : ObjectData) (e : EmitError) (c : BuildCause) → IsLeft part m → end_cause m.state ≡ None → o ≡ object_of m.settings m.state → TellsOver e c → TellsLimit e (limit_cause (counts_of o))
+pub part_over : (part : PartData) (m : OpenModule) (o : ObjectData) (e : EmitError) (c : BuildCause) → IsLeft part m → end_cause m.state ≡ None → o ≡ object_of m.settings m.state → TellsOver e c → TellsLimit e (limit_of o)
     → TellsBuild (record { part = 0; place = End; cause = c }) (build_cause (commands part ∷ []))
 part_over part m o e c left ended h t told = tells_over part e c (finished part m left ended) t (rw (same_object part m o left h) at told)
 
-pub part_valid : (part : PartData) (m : OpenModule) (o : ObjectData) → IsLeft part m → end_cause m.state ≡ None → o ≡ object_of m.settings m.state → limit_cause (counts_of o) ≡ None → build_cause (commands part ∷ []) ≡ None
+pub part_valid : (part : PartData) (m : OpenModule) (o : ObjectData) → IsLeft part m → end_cause m.state ≡ None → o ≡ object_of m.settings m.state → limit_of o ≡ None → build_cause (commands part ∷ []) ≡ None
 part_valid part m o left ended h free = valid_part part (finished part m left ended) (rw (same_object part m o left h) at free)
 
-supported_start : (supported : Bool) (causes : List (Option Refusal)) → first_cause (refuse_if (not supported) (backend UnsupportedTarget) ∷ causes) ≡ None → supported ≡ true
-supported_start true causes h = refl
-supported_start false causes h = absurd (cc)
-
--- a part that was begun and isn't Mach-O has an ELF file
-elf_part : (part : PartData) → start_cause part.settings part.target ≡ None → is_mach_o part.target.triple.architecture part.target.triple.binary_format ≡ false → (object_of part.settings (part_state part)).format ≡ Elf
-unfolding start_cause object_of state_of
-elf_part part started other = supported_elf part.target.triple.architecture part.target.triple.binary_format (supported_start (is_supported part.target.triple.architecture part.target.triple.binary_format) (zero_byte part.settings.file_name ∷ map zero_byte part.settings.library_names) started) other
-
-held_elf : (format : BinaryFormat) (b : List ℕ) (o : ObjectData) → format ≡ Elf → ElfHolds b (elf_table_of o) → FileHolds b (table_in format o)
-held_elf format b o e holds = rw e holds
-
-pub part_built : (part : PartData) (m : OpenModule) (o : ObjectData) (b : List ℕ) → IsLeft part m → is_mach_o part.target.triple.architecture part.target.triple.binary_format ≡ false → o ≡ object_of m.settings m.state → ElfHolds b (elf_table_of o)
-    → FileHolds b (link_table part.settings (part_state part))
-part_built part m o b left other h holds = held_elf (object_of part.settings (part_state part)).format b (object_of part.settings (part_state part)) (elf_part part left.passed.start other) (rw (same_object part m o left h) at holds)
+-- the file of the module's object is that of the part
+pub part_built : (part : PartData) (m : OpenModule) (o : ObjectData) (b : List ℕ) → IsLeft part m → o ≡ object_of m.settings m.state → IsObjectFile o b → FileHolds b (link_table part.settings (part_state part))
+part_built part m o b left h holds = rw (same_object part m o left h) at holds

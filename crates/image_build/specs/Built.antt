@@ -1,12 +1,11 @@
 -- What a build gives for a list of parts, and what refuses it.
 use Rattle.std.specs.Prelude.{◌≡◌, ℕ, List, [], ◌∷◌, Option, Some, None, option_map, IsSome, IsSomeAnd}
-use Rattle.object_core.specs.LinkTable.{LinkTable, elf, mach}
 use Rattle.object_core.specs.declared.error.EmitError.{EmitError}
 use Rattle.object_core.specs.declared.error.EmitError.TheVariants as limits
 use Rattle.cranelift_module.specs.declared.error.ModuleError.{ModuleError}
-use Rattle.object_elf.specs.ElfHolds.{ElfHolds}
 use Rattle.cranelift_module.specs.Refusal.{refusal_told}
 use Rattle.cranelift_object.specs.Linked.{link_table}
+pub use Rattle.cranelift_object.specs.Emitted.{FileHolds}
 use Rattle.cranelift_object.specs.Part.{PartData, PartRefusal, at_start, at_call, at_end, over, part_state, part_cause}
 use Rattle.image_build.specs.declared.error.BuildError.{BuildError}
 use Rattle.image_build.specs.declared.error.BuildCause.{BuildCause}
@@ -18,11 +17,6 @@ use Rattle.image_build.specs.declared.error.Place.TheVariants.{Start, Command, E
 pub data BuildPart : Type 0 where
   commands : PartData → BuildPart
   image : List ℕ → BuildPart
-
--- the bytes hold a link table, by the layout of its format; Mach-O files aren't built yet
-abbrev pub FileHolds : List ℕ → LinkTable → Type 0
-FileHolds b (elf table) = ElfHolds b table
-FileHolds b (mach table) = ⊥
 
 -- the bytes are the file of a part: they hold its link table
 abbrev pub IsFileOf : PartData → List ℕ → Type 0

@@ -4,7 +4,7 @@ ghost use Rattle.std.specs.Prelude.{◌≡◌, ◌∷◌, [], true, false, None,
 ghost use Rattle.std.specs.List.{All};
 ghost use Rattle.cranelift_module.specs.LinkState.{state_of};
 ghost use Rattle.cranelift_module.specs.Refusal.{Tells, refusal_told};
-ghost use Rattle.cranelift_object.specs.Part.{start_cause, is_mach_o};
+ghost use Rattle.cranelift_object.specs.Part.{start_cause};
 ghost use Rattle.image_build.specs.Built.{Built, build_cause, TellsBuild, TellsCause, TellsOver, commands};
 ghost use Rattle.image_build.specs.Parts.{part_view, built_so_far, HasFewCalls, IsPlainPart};
 
@@ -12,7 +12,6 @@ use crate::error::{BuildCause, BuildError, Place};
 use crate::part::Part;
 use cranelift_module::{ModuleError, ModuleResult};
 use cranelift_object::{CommandPart, EmitError, ObjectBuilder, ObjectModule, apply};
-use ir_core::{Architecture, BinaryFormat};
 use std::alloc::Global;
 
 /// The cause of a build that a module refused.
@@ -50,7 +49,6 @@ fn at(place: Place, cause: BuildCause) -> BuildError
 /// A module with the part's target and settings, before its commands.
 #[tactic(auto, using(crate::proofs::PartCause::start_plain))]
 fn open_module(alloc: Global, part: &CommandPart) -> ModuleResult<ObjectModule>
-    requires { is_mach_o (part.now).target.triple.architecture (part.now).target.triple.binary_format ≡ false }
     ensures ok { IfOk result (λ m. m ≡ record { settings = (part.now).settings; state = state_of (part.now).target [] }) }
     ensures none { OnOk result (start_cause (part.now).settings (part.now).target ≡ None) }
     ensures cause { IfErr result (λ e. Tells e (start_cause (part.now).settings (part.now).target)) }
@@ -87,24 +85,12 @@ fn build_part(alloc: Global, part: &CommandPart) -> Result<Vec<u8>, BuildError>
     }
 }
 
-/// Whether these parts are built so far: one of commands, and no Mach-O file of x86_64 or aarch64. Images, and files of
-/// more parts, come with fat files.
+/// Whether these parts are built so far: one of commands. Images, and files of more parts, come with fat files.
 pub fn built_so_far(parts: &[Part]) -> bool
     ensures { result ≡ built_so_far (map part_view parts.now) }
 {
     match parts {
-        [Part::Commands(part)] => !is_mach_o(part),
-        _ => false,
-    }
-}
-
-// The part is a Mach-O file of a processor that has some.
-fn is_mach_o(part: &CommandPart) -> bool
-    ensures { result ≡ is_mach_o (part.now).target.triple.architecture (part.now).target.triple.binary_format }
-{
-    let triple = part.isa().triple();
-    match (triple.architecture, triple.binary_format) {
-        (Architecture::X86_64 | Architecture::Aarch64, BinaryFormat::Macho) => true,
+        [Part::Commands(_)] => true,
         _ => false,
     }
 }

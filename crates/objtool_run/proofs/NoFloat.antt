@@ -1,8 +1,7 @@
 -- The value of declarations has no float, so its text is exact.
-use Rattle.std.proofs.Common.{◌≡◌, ℕ, false, List, [], ◌∷◌, map, Option, Some, None, refl, ap, ◌∙◌}
+use Rattle.std.proofs.Common.{◌≡◌, ℕ, false, List, Option, Some, None, refl}
 use Rattle.serde_json.specs.Data.{Data}
-use Rattle.serde_json.specs.View.{items_of}
-use Rattle.serde_json.specs.Written.{has_float, items_have_float, compact_text}
+use Rattle.serde_json.specs.Written.{has_float, compact_text}
 use Rattle.json_form.proofs.Plain.{list_plain, exact_text}
 use Rattle.ir_core.specs.Signature.{SignatureData}
 use Rattle.ir_core.specs.declared.signature.AbiParam.{AbiParam}

@@ -247,8 +247,6 @@ fn parts_that_are_not_built_so_far_have_a_status_of_their_own(rt: HostRuntime) -
         "[]",
         "[{\"image\":\"\"}]",
         "[{\"image\":\"cafebabe00000000\"}]",
-        "[{\"name\":\"a.o\",\"arch\":\"x86_64\",\"format\":\"macho\",\"commands\":[]}]",
-        "[{\"name\":\"a.o\",\"arch\":\"aarch64\",\"format\":\"macho\",\"system\":\"macosx\",\"version\":[11,0,0],\"commands\":[]}]",
         "[{\"name\":\"a.o\",\"arch\":\"x86_64\",\"format\":\"elf\",\"commands\":[]},{\"name\":\"b.o\",\"arch\":\"x86_64\",\"format\":\"elf\",\"commands\":[]}]",
         "[{\"name\":\"a.o\",\"arch\":\"x86_64\",\"format\":\"elf\",\"commands\":[]},{\"image\":\"00\"}]",
     ];

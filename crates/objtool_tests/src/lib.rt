@@ -14,7 +14,11 @@ mod files;
 #[cfg(test)]
 mod limit_tests;
 #[cfg(test)]
+mod mach_build_tests;
+#[cfg(test)]
 mod mach_files;
+#[cfg(test)]
+mod mach_part_files;
 #[cfg(test)]
 mod pe_tests;
 #[cfg(test)]

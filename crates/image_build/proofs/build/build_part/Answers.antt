@@ -1,5 +1,6 @@
 use Rattle.std.proofs.Common.{ap}
 use Rattle.cranelift_object.specs.Opened.{ProductData}
+use Rattle.cranelift_object.proofs.FormatLaws.{judged_ok, judged_err}
 use Rattle.image_build.proofs.PartCause.{tells_start, part_room, part_room_for_data, part_call, part_left, part_end, part_over, part_valid, part_built}
 use Rattle.image_build.proofs.build.build_part.Goals as goal
 
@@ -26,16 +27,16 @@ returns-in-Err-finish-clause-cause c =
 pub returns-in-Ok-emit-clause-built : goal.returns-in-Ok-emit-clause-built
 returns-in-Ok-emit-clause-built c =
     let left = part_left c.args.part.now c.in-Ok.module _ _ c.in-Ok.ensures.ok c.in-Ok.ensures.none c.commands.ensures c.in_default.ensures.none c.in_default.ensures.ok c.in_default.ensures.keeps in
-    part_built c.args.part.now _ c.in-Ok-finish.product.object c.in-Ok-emit.bytes.items left c.requires.format (ap (λ (p : ProductData). p.object) c.in-Ok-finish.ensures.ok) c.in-Ok-emit.ensures.holds
+    part_built c.args.part.now _ c.in-Ok-finish.product.object c.in-Ok-emit.bytes.items left (ap (λ (p : ProductData). p.object) c.in-Ok-finish.ensures.ok) c.in-Ok-emit.ensures.holds
 
 pub returns-in-Ok-emit-clause-valid : goal.returns-in-Ok-emit-clause-valid
 returns-in-Ok-emit-clause-valid c =
     let left = part_left c.args.part.now c.in-Ok.module _ _ c.in-Ok.ensures.ok c.in-Ok.ensures.none c.commands.ensures c.in_default.ensures.none c.in_default.ensures.ok c.in_default.ensures.keeps in
-    part_valid c.args.part.now _ c.in-Ok-finish.product.object left c.in-Ok-finish.ensures.none (ap (λ (p : ProductData). p.object) c.in-Ok-finish.ensures.ok) c.in-Ok-emit.ensures.limits.ok
+    part_valid c.args.part.now _ c.in-Ok-finish.product.object left c.in-Ok-finish.ensures.none (ap (λ (p : ProductData). p.object) c.in-Ok-finish.ensures.ok) (judged_ok c.in-Ok-finish.product.object _ c.in-Ok-emit.ensures.limits)
 
 pub returns-in-Err-emit-clause-cause : goal.returns-in-Err-emit-clause-cause
 returns-in-Err-emit-clause-cause c =
     let left = part_left c.args.part.now c.in-Ok.module _ _ c.in-Ok.ensures.ok c.in-Ok.ensures.none c.commands.ensures c.in_default.ensures.none c.in_default.ensures.ok c.in_default.ensures.keeps in
     rw c.at-in-Err-emit.ensures
     (part_over c.args.part.now _ c.in-Ok-finish.product.object c.in-Err-emit.error c.limit_cause.result left c.in-Ok-finish.ensures.none (ap (λ (p : ProductData). p.object) c.in-Ok-finish.ensures.ok) c.limit_cause.ensures
-    c.in-Err-emit.ensures.limits.err)
+    (judged_err c.in-Ok-finish.product.object _ c.in-Err-emit.ensures.limits))

@@ -2,7 +2,7 @@ use Rattle.std.proofs.Common.{◌∙◌, subst}
 use Rattle.cranelift_object.specs.Opened.{OpenModule}
 use Rattle.cranelift_object.specs.Kept.{IsModule, Marks}
 use Rattle.cranelift_object.proofs.FinishLaws.{end_targets}
-use Rattle.cranelift_object.proofs.FormedLaws.{writable}
+use Rattle.cranelift_object.proofs.FormedMach.{writable}
 use Rattle.cranelift_object.proofs.AddingLaws.{has_identifiers}
 use Rattle.cranelift_object.proofs.DefineLaws.{product_is}
 use Rattle.cranelift_object.proofs.backend.ObjectModule.finish.Goals as goal

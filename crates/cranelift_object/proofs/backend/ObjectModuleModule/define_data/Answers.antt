@@ -6,8 +6,9 @@ use Rattle.cranelift_module.specs.Call.{Contents, bytes}
 use Rattle.cranelift_module.specs.Refusal.{bad_reloc_from, bytes_in, is_defined}
 use Rattle.cranelift_module.specs.declared.identifiers.FuncOrDataId.TheVariants.{Data}
 use Rattle.cranelift_object.specs.Opened.{OpenModule}
+use Rattle.cranelift_object.specs.Kept.{HasPlaceIn}
 use Rattle.cranelift_object.proofs.KeptLaws.{kept_body_data}
-use Rattle.cranelift_object.proofs.CallLaws.{refused_call, accepted_call, data_cause, tells_first, tells_second, both_none, step_data, data_body, data_declared, data_free, described_range, judged_in_hand}
+use Rattle.cranelift_object.proofs.CallLaws.{refused_call, accepted_call, data_cause, tells_first, tells_second, both_none, step_data, data_body, data_declared, data_free, described_range, described_placed, judged_in_hand}
 use Rattle.cranelift_object.proofs.backend.ObjectModuleModule.define_data.Goals as goal
 
 pub returns-in-Err-clause-call : goal.returns-in-Err-clause-call
@@ -45,11 +46,13 @@ invariant_of-self-2 c =
     in
     let hand = judged_in_hand c.self.inside.builder.target c.args.desc.now c.bytes_in.result c.deref.result.now (c.bytes_in.ensures ∙ ap (λ (o : Option Contents). bytes_in (unwrap_or o (bytes []))) c.init.ensures) (c.deref.ensures.value ∙ c.in_ok-relocs.ensures) in
     let judged = sym hand ∙ subst (λ (t : Target). bad_reloc_from t c.bytes_in.result [] c.deref.result.now ≡ None) c.isa-2.ensures c.in_default-check_relocs.ensures.accepted in
+    let format : c.triple.result.now.binary_format ≡ c.self.inside.builder.target.triple.binary_format = ap (λ (t : Triple). t.binary_format) c.triple.ensures ∙ ap (λ (t : Target). t.triple.binary_format) c.isa.ensures in
+    let place = subst (λ f. HasPlaceIn f c.self.inside.declarations.objects (Data c.args.data_id)) format (described_placed c.triple.result.now.binary_format c.is_object_defined-defined.result c.args.data_id c.args.desc.now c.self.inside.declarations.objects accepted) in
     let body =
-    data_body c.self.inside.builder.target (length c.self.inside.declarations.functions) (length c.self.inside.declarations.objects) c.args.data_id c.args.desc.now c.triple.result.now.binary_format c.is_object_defined-defined.result c.self.inside.declarations.objects c.args.self.now.state.objects c.in_ok-definition.definition
+    data_body c.self.inside.builder.target (length c.self.inside.declarations.functions) (length c.self.inside.declarations.objects) c.args.data_id c.args.desc.now c.triple.result.now.binary_format c.is_object_defined-defined.result c.self.inside.declarations.objects c.args.self.now.state.objects c.in_ok-definition.definition format
     (c.in_ok-definition.ensures.value c.args.self.now.state.objects (sym c.is_writable-writable.ensures)) accepted below judged c.in_ok-definition.ensures.sized
     in
-    kept_body_data _ _ c.in_ok-definition.definition c.push.new.self.items c.args.data_id c.as_u32.result c.self.invariant body.0 body.1 below marks c.in_ok-push.ensures.items c.as_u32.ensures
+    kept_body_data _ _ c.in_ok-definition.definition c.push.new.self.items c.args.data_id c.as_u32.result c.self.invariant body.0 place body.1 below marks c.in_ok-push.ensures.items c.as_u32.ensures
 
 pub returns-clause-call : goal.returns-clause-call
 returns-clause-call c =
