@@ -71,6 +71,13 @@ impl<'a> MultiArch<'a> {
         Ok(MultiArch { bytes, narches })
     }
 
+    /// The bytes of the fat file.
+    pub fn bytes(&self) -> &'a [u8]
+        ensures { result.now ≡ (self.now).bytes }
+    {
+        self.bytes
+    }
+
     /// The entries by number. The first that the file doesn't have whole is the last item, an error.
     pub fn iter_arches(&self) -> FatArchIterator<'_>
         ensures items { result ≡ fat_items self.now }

@@ -1,0 +1,5 @@
+mod Examples
+mod FileExamples
+mod LayoutLaws
+mod WideLaws
+mod FirstEntry

@@ -1,0 +1,9 @@
+pub mod Errors
+pub mod Parse
+pub mod Slices
+pub mod Layout
+pub mod FatHolds
+pub mod Input
+pub mod Reader
+pub mod Laws
+pub mod ClassView

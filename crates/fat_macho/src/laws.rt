@@ -1,0 +1,11 @@
+//! Laws of fat files. The function does nothing; its contract is the law.
+
+ghost use Rattle.fat_macho.specs.Laws.{LayoutIsSound, LayoutIsLeast, WideWhereLong};
+
+/// The offsets of a fat file are the least for their order, their table and their alignment, and its entries have 64 bits
+/// exactly where the file with entries of 32 bits is too long for them.
+pub fn layout_laws()
+    ensures sound { LayoutIsSound }
+    ensures least { LayoutIsLeast }
+    ensures wide { WideWhereLong }
+{}

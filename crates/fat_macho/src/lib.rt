@@ -1,0 +1,16 @@
+//! Fat files: the files of several architectures in one.
+//!
+//! It stands on `byte_core`, `goblin_mach`, on the fat images of `image_read`, and on `thiserror` of the kit. The layers above
+//! may rely on this: an input is classified by its first bytes, a reader gives the slice of an architecture exactly as
+//! the table has it, and the layout of a written file is the least for its slices.
+#![tactic(auto)]
+
+mod architecture;
+mod error;
+mod laws;
+mod parse;
+mod read;
+
+pub use error::{Error, InvalidCase, IoCause};
+pub use laws::layout_laws;
+pub use read::FatReader;

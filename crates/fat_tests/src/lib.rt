@@ -1,0 +1,4 @@
+//! Tests of fat files through public items.
+#![tactic(auto)]
+
+mod reader_tests;
