@@ -1,0 +1,11 @@
+mod ShareLaws
+mod PatchLaws
+mod RelatedLaws
+mod SplitLaws
+mod ShownLaws
+mod RangeLaws
+mod SoundLaws
+mod EntryLaws
+mod PlacedLaws
+mod KindLaws
+mod StandingLaws

@@ -1,0 +1,9 @@
+pub mod Fixups
+pub mod Memory
+pub mod View
+pub mod Placed
+pub mod Shares
+pub mod Shown
+pub mod ObjectFile
+pub mod Related
+pub mod Laws
