@@ -8,6 +8,7 @@ use Rattle.byte_core.proofs.Lists.{get_left, get_right, get_map, get_filter, get
 use Rattle.ir_core.specs.Target.{Target}
 use Rattle.ir_core.specs.declared.target.BinaryFormat.{BinaryFormat}
 use Rattle.image_read.specs.ElfImage.{ElfImageData, ElfReads}
+use Rattle.object_core.specs.declared.kinds.SymbolKind.{SymbolKind}
 use Rattle.object_core.specs.declared.kinds.SymbolKind.TheVariants as kind
 use Rattle.object_core.specs.Object.{SymbolData, is_local, is_global}
 use Rattle.object_core.specs.ElfRows.{elf_symbol, elf_table_of, row_in}
@@ -42,7 +43,7 @@ use Rattle.cranelift_object.proofs.StateSound.{IsSound, MayDefine, sound_state}
 -- ---- what a row shows
 
 -- where an identifier is defined, and with what linkage it can be
-abbrev Fits : Linkage → Option Placed → Type 0
+abbrev pub Fits : Linkage → Option Placed → Type 0
 Fits linkage None = requires_definition linkage ≡ false
 Fits linkage (Some p) = is_definable linkage ≡ true
 
@@ -92,9 +93,24 @@ tls_shown format name Preemptible (Some p) h = refl
 tls_shown format name Export None h = absurd (cc)
 tls_shown format name Export (Some p) h = rw (never_zero p.section) refl
 
-object_shown : (format : BinaryFormat) (name : List ℕ) (linkage : Linkage) (tls : Bool) (at : Option Placed) → Fits linkage at → shown_from (named_symbol format name linkage (cond tls kind.Tls kind.Data) at) ≡ linkage
-object_shown format name linkage true at h = tls_shown format name linkage at h
-object_shown format name linkage false at h = data_kind_shown format name linkage at h
+-- a function, a data object or a thread-local one
+abbrev pub is_of_identifier : SymbolKind → Bool
+is_of_identifier kind.Text = true
+is_of_identifier kind.Data = true
+is_of_identifier kind.Tls = true
+is_of_identifier kind.Label = false
+is_of_identifier kind.File = false
+
+kind_shown : (format : BinaryFormat) (name : List ℕ) (linkage : Linkage) (k : SymbolKind) (at : Option Placed) → is_of_identifier k ≡ true → Fits linkage at → shown_from (named_symbol format name linkage k at) ≡ linkage
+kind_shown format name linkage kind.Text at o h = text_shown format name linkage at h
+kind_shown format name linkage kind.Data at o h = data_kind_shown format name linkage at h
+kind_shown format name linkage kind.Tls at o h = tls_shown format name linkage at h
+kind_shown format name linkage kind.Label at o h = absurd (cc)
+kind_shown format name linkage kind.File at o h = absurd (cc)
+
+data_kind : (tls : Bool) → is_of_identifier (cond tls kind.Tls kind.Data) ≡ true
+data_kind true = refl
+data_kind false = refl
 
 -- ---- where identifiers are defined
 
@@ -182,66 +198,86 @@ symbol_row_get ss k x e =
     get_map symbol_shown (map elf_symbol (filter is_local ss ++ filter is_global ss)) (row_in ss k - 1) (elf_symbol x) (get_map elf_symbol (filter is_local ss ++ filter is_global ss) (row_in ss k - 1) x there)
 
 -- the symbol of a created identifier
-identifier_at : (settings : Settings) (s : LinkState) (r : ℕ) (id : FuncOrDataId) → slice_get s.created r ≡ Some id → slice_get (symbols_of settings s (placed settings s)) (suc r) ≡ Some (identifier_symbol s (placed settings s) id)
+pub identifier_at : (settings : Settings) (s : LinkState) (r : ℕ) (id : FuncOrDataId) → slice_get s.created r ≡ Some id → slice_get (symbols_of settings s (placed settings s)) (suc r) ≡ Some (identifier_symbol s (placed settings s) id)
 unfolding symbols_of
 identifier_at settings s r id e =
     get_left (file_symbol settings.file_name ∷ map (identifier_symbol s (placed settings s)) s.created) (map (extra_symbol (placed settings s)) (extras settings s)) (suc r) (identifier_symbol s (placed settings s) id)
     (get_map (identifier_symbol s (placed settings s)) s.created r id e)
 
+-- the number of a created identifier's symbol, behind the file's
+pub identifier_number : (settings : Settings) (s : LinkState) (r : ℕ) (id : FuncOrDataId) → IsSound s → slice_get s.created r ≡ Some id → row_of settings s (identifier id) ≡ suc r
+identifier_number settings s r id sound e = omega (arith, place_is 0 0 (length s.functions) (length s.objects) s.created r id sound.order e)
+
 row_get : (settings : Settings) (s : LinkState) (r : ℕ) (id : FuncOrDataId) → IsSound s → slice_get s.created r ≡ Some id
     → slice_get (map symbol_shown (elf_table_of (object_of settings s)).symbols) (identifier_row settings s id - 1) ≡ Some (symbol_shown (elf_symbol (identifier_symbol s (placed settings s) id)))
 unfolding object_of elf_table_of
 row_get settings s r id sound e =
-    let number : row_of settings s (identifier id) ≡ suc r = omega (arith, place_is 0 0 (length s.functions) (length s.objects) s.created r id sound.order e) in
-    rw number (symbol_row_get (symbols_of settings s (placed settings s)) (suc r) (identifier_symbol s (placed settings s) id) (identifier_at settings s r id e))
+    rw (identifier_number settings s r id sound e) (symbol_row_get (symbols_of settings s (placed settings s)) (suc r) (identifier_symbol s (placed settings s) id) (identifier_at settings s r id e))
 
 -- ---- each identifier
 
-record Shown (s : LinkState) (ps : List Placed) (id : FuncOrDataId) : Type 0 where
-  place : ℕ
-  at : slice_get s.created place ≡ Some id
-  name : name_held s id ≡ Some (identifier_symbol s ps id).name
-  linkage : linkage_held s id ≡ Some (shown_from (identifier_symbol s ps id))
+-- the symbol of an identifier, once a module can be finished
+pub record Standing (s : LinkState) (ps : List Placed) (id : FuncOrDataId) : Type 0 where
+  pub place : ℕ
+  pub at : slice_get s.created place ≡ Some id
+  pub name : List ℕ
+  pub linkage : Linkage
+  pub symbol_kind : SymbolKind
+  pub symbol : identifier_symbol s ps id ≡ named_symbol s.target.triple.binary_format name linkage symbol_kind (defined_at ps id)
+  pub named : name_held s id ≡ Some name
+  pub held : linkage_held s id ≡ Some linkage
+  pub of_identifier : is_of_identifier symbol_kind ≡ true
+  pub fits : Fits linkage (defined_at ps id)
 
-function_shown : (settings : Settings) (s : LinkState) (k : ℕ) (row : FunctionRow) → IsSound s → end_cause s ≡ None → slice_get s.functions k ≡ Some row → Shown s (placed settings s) (Func k)
-function_shown settings s k row sound ended e =
+function_symbol_stands : (settings : Settings) (s : LinkState) (k : ℕ) (row : FunctionRow) → IsSound s → end_cause s ≡ None → slice_get s.functions k ≡ Some row → Standing s (placed settings s) (Func k)
+function_symbol_stands settings s k row sound ended e =
     let there = function_stands 0 0 (length s.functions) (length s.objects) s.created k sound.order (omega arith) (get_within s.functions k row e) in
     let may : is_defined s (Func k) ≡ true → is_definable row.linkage ≡ true = λ d. let h : MayDefine (linkage_held s (Func k)) = sound.defined (Func k) d in rw e at h in
     let fits : Fits row.linkage (defined_at (placed settings s) (Func k)) = placed_fits settings s (Func k) row.linkage (is_defined s (Func k)) refl may (function_wants s k row ended e) in
-    let symbol : identifier_symbol s (placed settings s) (Func k) ≡ named_symbol s.target.triple.binary_format (function_name row k) row.linkage kind.Text (defined_at (placed settings s) (Func k)) = ap (function_symbol s.target.triple.binary_format (placed settings s) k) e in
     record {
       place = there.0;
       at = there.1;
-      name = ap (option_map (λ (r : FunctionRow). function_name r k)) e ∙ ap (λ (x : SymbolData). Some x.name) (sym symbol);
-      linkage = ap (option_map (λ (r : FunctionRow). r.linkage)) e ∙ ap (λ l. Some l) (sym (text_shown s.target.triple.binary_format (function_name row k) row.linkage (defined_at (placed settings s) (Func k)) fits)) ∙ ap (λ x. Some (shown_from x)) (sym symbol);
+      name = function_name row k;
+      linkage = row.linkage;
+      symbol_kind = kind.Text;
+      symbol = ap (function_symbol s.target.triple.binary_format (placed settings s) k) e;
+      named = ap (option_map (λ (r : FunctionRow). function_name r k)) e;
+      held = ap (option_map (λ (r : FunctionRow). r.linkage)) e;
+      of_identifier = refl;
+      fits = fits;
     }
 
-data_shown : (settings : Settings) (s : LinkState) (k : ℕ) (row : DataRow) → IsSound s → end_cause s ≡ None → slice_get s.objects k ≡ Some row → Shown s (placed settings s) (Data k)
-data_shown settings s k row sound ended e =
+data_symbol_stands : (settings : Settings) (s : LinkState) (k : ℕ) (row : DataRow) → IsSound s → end_cause s ≡ None → slice_get s.objects k ≡ Some row → Standing s (placed settings s) (Data k)
+data_symbol_stands settings s k row sound ended e =
     let there = data_stands 0 0 (length s.functions) (length s.objects) s.created k sound.order (omega arith) (get_within s.objects k row e) in
     let may : is_defined s (Data k) ≡ true → is_definable row.linkage ≡ true = λ d. let h : MayDefine (linkage_held s (Data k)) = sound.defined (Data k) d in rw e at h in
     let fits : Fits row.linkage (defined_at (placed settings s) (Data k)) = placed_fits settings s (Data k) row.linkage (is_defined s (Data k)) refl may (data_wants s k row ended e) in
-    let symbol : identifier_symbol s (placed settings s) (Data k) ≡ named_symbol s.target.triple.binary_format (data_name row k) row.linkage (cond row.tls kind.Tls kind.Data) (defined_at (placed settings s) (Data k)) = ap (data_symbol s.target.triple.binary_format (placed settings s) k) e in
     record {
       place = there.0;
       at = there.1;
-      name = ap (option_map (λ (r : DataRow). data_name r k)) e ∙ ap (λ (x : SymbolData). Some x.name) (sym symbol);
-      linkage = ap (option_map (λ (r : DataRow). r.linkage)) e ∙ ap (λ l. Some l) (sym (object_shown s.target.triple.binary_format (data_name row k) row.linkage row.tls (defined_at (placed settings s) (Data k)) fits)) ∙ ap (λ x. Some (shown_from x)) (sym symbol);
+      name = data_name row k;
+      linkage = row.linkage;
+      symbol_kind = cond row.tls kind.Tls kind.Data;
+      symbol = ap (data_symbol s.target.triple.binary_format (placed settings s) k) e;
+      named = ap (option_map (λ (r : DataRow). data_name r k)) e;
+      held = ap (option_map (λ (r : DataRow). r.linkage)) e;
+      of_identifier = data_kind row.tls;
+      fits = fits;
     }
 
-function_row_shown : (settings : Settings) (s : LinkState) (k : ℕ) (row : Option FunctionRow) (linkage : Linkage) → IsSound s → end_cause s ≡ None → slice_get s.functions k ≡ row → option_map (λ (r : FunctionRow). r.linkage) row ≡ Some linkage
-    → Shown s (placed settings s) (Func k)
-function_row_shown settings s k None linkage sound ended e h = absurd (cc)
-function_row_shown settings s k (Some row) linkage sound ended e h = function_shown settings s k row sound ended e
+function_row_stands : (settings : Settings) (s : LinkState) (k : ℕ) (row : Option FunctionRow) (linkage : Linkage) → IsSound s → end_cause s ≡ None → slice_get s.functions k ≡ row → option_map (λ (r : FunctionRow). r.linkage) row ≡ Some linkage
+    → Standing s (placed settings s) (Func k)
+function_row_stands settings s k None linkage sound ended e h = absurd (cc)
+function_row_stands settings s k (Some row) linkage sound ended e h = function_symbol_stands settings s k row sound ended e
 
-data_row_shown : (settings : Settings) (s : LinkState) (k : ℕ) (row : Option DataRow) (linkage : Linkage) → IsSound s → end_cause s ≡ None → slice_get s.objects k ≡ row → option_map (λ (r : DataRow). r.linkage) row ≡ Some linkage
-    → Shown s (placed settings s) (Data k)
-data_row_shown settings s k None linkage sound ended e h = absurd (cc)
-data_row_shown settings s k (Some row) linkage sound ended e h = data_shown settings s k row sound ended e
+data_row_stands : (settings : Settings) (s : LinkState) (k : ℕ) (row : Option DataRow) (linkage : Linkage) → IsSound s → end_cause s ≡ None → slice_get s.objects k ≡ row → option_map (λ (r : DataRow). r.linkage) row ≡ Some linkage
+    → Standing s (placed settings s) (Data k)
+data_row_stands settings s k None linkage sound ended e h = absurd (cc)
+data_row_stands settings s k (Some row) linkage sound ended e h = data_symbol_stands settings s k row sound ended e
 
-identifier_shown : (settings : Settings) (s : LinkState) (id : FuncOrDataId) (linkage : Linkage) → IsSound s → end_cause s ≡ None → linkage_held s id ≡ Some linkage → Shown s (placed settings s) id
-identifier_shown settings s (Func k) linkage sound ended h = function_row_shown settings s k (slice_get s.functions k) linkage sound ended refl h
-identifier_shown settings s (Data k) linkage sound ended h = data_row_shown settings s k (slice_get s.objects k) linkage sound ended refl h
+pub identifier_stands : (settings : Settings) (s : LinkState) (id : FuncOrDataId) (linkage : Linkage) → IsSound s → end_cause s ≡ None → linkage_held s id ≡ Some linkage → Standing s (placed settings s) id
+identifier_stands settings s (Func k) linkage sound ended h = function_row_stands settings s k (slice_get s.functions k) linkage sound ended refl h
+identifier_stands settings s (Data k) linkage sound ended h = data_row_stands settings s k (slice_get s.objects k) linkage sound ended refl h
 
 pub linkages_shown : (settings : Settings) (target : Target) (calls : List Call) → IsFinished target calls → ShowLinkages settings target calls (table_rows settings target calls)
 unfolding shown_from
@@ -251,12 +287,14 @@ linkages_shown settings target calls finished id linkage h =
     let held : linkage_of calls id ≡ linkage_held s id = marks.1 in
     let named : name_of calls id ≡ name_held s id = marks.2 in
     let sound = sound_state target calls finished.accepted in
-    let shown = identifier_shown settings s id linkage sound finished.ended (sym held ∙ h) in
+    let standing = identifier_stands settings s id linkage sound finished.ended (sym held ∙ h) in
+    let shown : shown_from (named_symbol s.target.triple.binary_format standing.name standing.linkage standing.symbol_kind (defined_at (placed settings s) id)) ≡ standing.linkage =
+    kind_shown s.target.triple.binary_format standing.name standing.linkage standing.symbol_kind (defined_at (placed settings s) id) standing.of_identifier standing.fits in
     record {
       row = symbol_shown (elf_symbol (identifier_symbol s (placed settings s) id));
-      at = row_get settings s shown.place id sound shown.at;
-      name = named ∙ shown.name;
-      linkage = held ∙ shown.linkage;
+      at = row_get settings s standing.place id sound standing.at;
+      name = named ∙ standing.named ∙ ap (λ (x : SymbolData). Some x.name) (sym standing.symbol);
+      linkage = held ∙ standing.held ∙ ap (λ (l : Linkage). Some l) (sym shown) ∙ ap (λ (x : SymbolData). Some (shown_from x)) (sym standing.symbol);
     }
 
 -- ---- read back from a file
