@@ -7,3 +7,11 @@ pub mod Input
 pub mod Reader
 pub mod Laws
 pub mod ClassView
+pub mod ShapeView
+pub mod LayoutView
+pub mod Reading
+pub mod Parts
+pub mod Adding
+pub mod Held
+pub mod HeldViews
+pub mod AddedViews

@@ -5,12 +5,22 @@
 //! the table has it, and the layout of a written file is the least for its slices.
 #![tactic(auto)]
 
+mod added;
 mod architecture;
 mod error;
+mod held;
+mod input;
+mod joining;
 mod laws;
+mod layout;
+mod order;
 mod parse;
 mod read;
+mod reading;
+mod shape;
+mod writer;
 
 pub use error::{Error, InvalidCase, IoCause};
 pub use laws::layout_laws;
 pub use read::FatReader;
+pub use writer::FatWriter;

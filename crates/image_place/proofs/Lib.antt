@@ -1,3 +1,6 @@
+mod Examples
+mod PartExamples
+mod ObjectExamples
 mod ShareLaws
 mod PatchLaws
 mod RelatedLaws
@@ -8,4 +11,13 @@ mod SoundLaws
 mod EntryLaws
 mod PlacedLaws
 mod KindLaws
+pub mod ViewedLaws
+pub mod FindingLaws
+pub mod DefinitionLaws
+mod TwiceLaws
+pub mod NamingLaws
+pub mod ExportLaws
+pub mod ApplyingLaws
+pub mod FillingLaws
+pub mod RangeSteps
 mod StandingLaws

@@ -8,13 +8,10 @@ use Rattle.image_read.specs.Image.{Reads}
 use Rattle.image_read.specs.declared.image.Image.{Image}
 use Rattle.image_place.specs.Fixups.{FixKind, fix_width, Goal, own, named, Fixup, Piece, Addresses, bound, resolved, patch_of, memory_of}
 use Rattle.image_place.specs.View.{View, ViewSymbol, ViewReloc, ViewSection, view_of}
-
 -- where a definition is to stand, and how long it is: the number of its image, the row of its symbol
-pub record AddressRow : Type 0 where
-  pub image : ℕ
-  pub symbol : ℕ
-  pub address : ℕ
-  pub size : ℕ
+pub use Rattle.image_place.specs.declared.rows.DefAddress.{DefAddress as AddressRow}
+pub use Rattle.image_place.specs.declared.fault.PlaceFault.{PlaceFault}
+pub use Rattle.image_place.specs.declared.fault.PlaceFault.TheVariants.{DefinedTwice as defined_twice, NoAddress as no_address, OtherKind as other_kind, LooseLabel as loose_label, DoesNotFit as does_not_fit}
 
 -- -- definitions
 
@@ -122,13 +119,6 @@ placed_entries views addresses externs =
 
 -- -- refusals
 
-pub data PlaceFault : Type 0 where
-  defined_twice : ℕ → ℕ → PlaceFault
-  no_address : ℕ → ℕ → PlaceFault
-  other_kind : ℕ → ℕ → PlaceFault
-  loose_label : ℕ → ℕ → PlaceFault
-  does_not_fit : ℕ → ℕ → PlaceFault
-
 abbrev pub first_fault : List (Option PlaceFault) → Option PlaceFault
 first_fault [] = None
 first_fault (fault ∷ faults) = option_or fault (first_fault faults)
@@ -149,24 +139,28 @@ symbols_at v = map (λ (e : ℕ × ViewSymbol). record { image = v.0; row = e.0;
 unfoldable pub all_definitions : List View → List At
 all_definitions views = filter (λ a. is_definition a.symbol) (flat_map symbols_at (enumerate_from 0 views))
 
+-- a definition that others see under this name
+abbrev pub exports_as : List ℕ → At → Bool
+exports_as x a = not a.symbol.is_local && bytes_eq a.symbol.name x
+
 -- a definition that others see, under a name that one before it has
 abbrev pub is_second : Moment At → Bool
-is_second m = not m.here.symbol.is_local && list_any (λ (a : At). not a.symbol.is_local && bytes_eq a.symbol.name m.here.symbol.name) m.before
+is_second m = not m.here.symbol.is_local && list_any (exports_as m.here.symbol.name) m.before
 
 abbrev pub twice_fault : Moment At → Option PlaceFault
 twice_fault m = fault_if (is_second m) (defined_twice m.here.image m.here.row)
 
 -- the range of a definition leaves its section
-abbrev pub leaves : ViewSymbol → ℕ → Option ViewSection → Bool
-leaves s size None = true
-leaves s size (Some section) = nat_lt s.address section.start || nat_lt (section.start + section.size) (s.address + size)
+abbrev pub leaves : ℕ → ℕ → Option ViewSection → Bool
+leaves at size None = true
+leaves at size (Some section) = nat_lt at section.start || nat_lt (section.start + section.size) (at + size)
 
 abbrev pub section_of : List View → At → Option ViewSection
 section_of views a = option_and_then (λ v. option_and_then (λ k. slice_get v.sections k) a.symbol.section) (slice_get views a.image)
 
 abbrev pub is_homeless : List View → At → Option AddressRow → Bool
 is_homeless views a None = true
-is_homeless views a (Some row) = leaves a.symbol row.size (section_of views a) || nat_le (2 ^ 64) (row.address + row.size)
+is_homeless views a (Some row) = leaves a.symbol.address row.size (section_of views a) || nat_le (2 ^ 64) (row.address + row.size)
 
 abbrev pub address_fault : List View → List AddressRow → At → Option PlaceFault
 address_fault views addresses a = fault_if (is_homeless views a (row_for addresses a.image a.row)) (no_address a.image a.row)
@@ -218,6 +212,15 @@ pub record IsViewed (b : List ℕ) (v : View) : Type 0 where
 
 abbrev pub is_same_format : View → View → Bool
 is_same_format v w = if v.is_elf then w.is_elf else not w.is_elf
+
+-- the file is no x86_64 object
+pub record IsNoObject (b : List ℕ) : Type 0 where
+  pub none : (v : View) → IsViewed b v → ⊥
+
+-- a view has the format of the first one
+abbrev pub fits_format : List View → View → Bool
+fits_format [] v = true
+fits_format (w ∷ ws) v = is_same_format w v
 
 -- the files are x86_64 objects of one format, with these views
 pub record AreViewed (files : List (List ℕ)) (views : List View) : Type 0 where

@@ -1,7 +1,7 @@
 -- What placement sees of an object, whatever its format: symbols and sections, addresses as the file stores them.
-use Rattle.std.specs.Prelude.{ℕ, ◌-◌, ◌/◌, ◌%◌, ◌==◌, ◌&&◌, nat_lt, nat_le, not, ℤ, pos, ◌-ℤ◌, Bool, true, false, List, [], ◌∷◌, length, map, replicate, Option, Some, None, if◌then◌else◌}
+use Rattle.std.specs.Prelude.{ℕ, ◌-◌, ◌/◌, ◌%◌, ◌==◌, ◌&&◌, nat_lt, nat_le, not, ℤ, pos, ◌-ℤ◌, Bool, true, false, List, [], ◌∷◌, length, map, replicate, Option, Some, None, unwrap_or, if◌then◌else◌}
 use Rattle.std.specs.Int.{cast_signed, w32, w64}
-use Rattle.byte_core.specs.Number.{number_at}
+use Rattle.byte_core.specs.Number.{number_at, where_inside}
 use Rattle.image_read.specs.ElfFile.{ElfRelocationRow}
 use Rattle.image_read.specs.ElfImage.{ElfImageData, ElfSectionData, ElfSymbolData}
 use Rattle.image_read.specs.MachFile.{MachRelocationRow, lies_in_section}
@@ -9,6 +9,8 @@ use Rattle.image_read.specs.MachImage.{MachImageData, MachSectionData, MachSymbo
 use Rattle.image_read.specs.declared.image.Image.{Image}
 use Rattle.image_read.specs.declared.image.Image.TheVariants.{Elf, Mach, Fat}
 use Rattle.image_place.specs.Fixups.{FixKind, absolute8, absolute4, relative4}
+-- a relocation: its offset in the section, its symbol's row, its kind if it is one that is applied, its number, its addend
+pub use Rattle.image_place.specs.declared.view.ViewReloc.{ViewReloc}
 
 -- A symbol: its name as it is compared, the number of its section, from 0, if it lies in one, its address, and its size, which
 -- Mach-O doesn't store: 0 there.
@@ -19,14 +21,6 @@ pub record ViewSymbol : Type 0 where
   pub size : ℕ
   pub is_local : Bool
   pub is_label : Bool
-
--- a relocation: its offset in the section, its symbol's row, its kind if it is one that is applied, its number, its addend
-pub record ViewReloc : Type 0 where
-  pub offset : ℕ
-  pub symbol : ℕ
-  pub kind : Option FixKind
-  pub number : ℕ
-  pub addend : ℤ
 
 -- a section: the address where it begins, its bytes, and its relocations in order
 pub record ViewSection : Type 0 where
@@ -44,6 +38,13 @@ pub record View : Type 0 where
 abbrev pub filled : ℕ → List ℕ → List ℕ
 filled size [] = replicate size 0
 filled size (x ∷ xs) = x ∷ xs
+
+-- a section with these bytes in the file
+abbrev pub section_with : ℕ → ℕ → List ℕ → List ViewReloc → ViewSection
+section_with start size contents relocations = record { start = start; size = size; bytes = filled size contents; relocations = relocations }
+
+abbrev pub view_with : Bool → List ViewSection → List ViewSymbol → View
+view_with is_elf sections symbols = record { is_elf = is_elf; sections = sections; symbols = symbols }
 
 -- -- ELF: R_X86_64_64 1, R_X86_64_PC32 2, R_X86_64_32 10
 
@@ -93,18 +94,22 @@ mach_kind r =
     else if r.r_type == 1 && r.pcrel && r.length == 2 then Some relative4
     else None
 
+-- the number in a field of so many bytes, 0 where the file has none there
+abbrev pub field_number : List ℕ → ℕ → ℕ → ℕ
+field_number contents offset width = unwrap_or (where_inside contents offset width (number_at contents offset width)) 0
+
 -- the addend that a field keeps: its number with its sign, which counts from the field's end where it is relative
 abbrev pub field_addend : List ℕ → ℕ → Option FixKind → ℤ
-field_addend bytes offset None = pos 0
-field_addend bytes offset (Some absolute8) = cast_signed w64 (number_at bytes offset 8)
-field_addend bytes offset (Some absolute4) = cast_signed w32 (number_at bytes offset 4)
-field_addend bytes offset (Some relative4) = cast_signed w32 (number_at bytes offset 4) -ℤ pos 4
+field_addend contents offset None = pos 0
+field_addend contents offset (Some absolute8) = cast_signed w64 (field_number contents offset 8)
+field_addend contents offset (Some absolute4) = cast_signed w32 (field_number contents offset 4)
+field_addend contents offset (Some relative4) = cast_signed w32 (field_number contents offset 4) -ℤ pos 4
 
 abbrev pub mach_view_reloc : List ℕ → MachRelocationRow → ViewReloc
-mach_view_reloc bytes r = record { offset = r.address; symbol = r.symbolnum; kind = mach_kind r; number = r.r_type; addend = field_addend bytes r.address (mach_kind r) }
+mach_view_reloc contents r = record { offset = r.address; symbol = r.symbolnum; kind = mach_kind r; number = r.r_type; addend = field_addend contents r.address (mach_kind r) }
 
 abbrev pub mach_view_section : MachSectionData → ViewSection
-mach_view_section s = record { start = s.address; size = s.size; bytes = filled s.size s.contents; relocations = map (mach_view_reloc (filled s.size s.contents)) s.relocations }
+mach_view_section s = section_with s.address s.size s.contents (map (mach_view_reloc s.contents) s.relocations)
 
 -- a name without its underscore, where it has one
 abbrev pub plain_name : List ℕ → List ℕ

@@ -1,8 +1,34 @@
-//! Placement: the bytes that relocated objects have in memory.
+//! Placement: the bytes that relocated objects have in memory. It stands on the readers' images and on the link state of
+//! parts. The layer above may rely on this: the placement laws, and a view of each x86_64 object, whatever its format.
 #![tactic(auto)]
 
+mod addresses;
+mod definitions;
+mod elf;
+mod error;
+mod exports;
+mod fault;
+mod filling;
+mod homes;
+mod judging;
 mod kind;
 mod laws;
+mod leading;
+mod mach;
+mod names;
+mod objects;
+mod patching;
+mod ranges;
+mod rows;
+mod twice;
+mod values;
+mod view;
 
+pub use elf::elf_view;
+pub use error::PlaceError;
 pub use kind::FixKind;
-pub use laws::placement_laws;
+pub use laws::{one_view, placement_laws};
+pub use mach::mach_view;
+pub use objects::{object_view, object_views};
+pub use rows::{DefAddress, Extern, PlacedBytes};
+pub use view::{View, ViewReloc, ViewSection, ViewSymbol};

@@ -6,3 +6,4 @@ pub mod Sections
 pub mod Standards
 pub mod Forming
 pub mod AllKinds
+pub mod Judged

@@ -1,79 +1,17 @@
 -- The bytes of a written file are bytes, where those of its table are.
-use Rattle.std.proofs.Common.{◌≡◌, ℕ, zero, suc, ◌-◌, ◌/◌, ◌%◌, ◌<◌, ◌++◌, ◌∷◌, List, [], Bool, true, false, map, replicate, refl, arith, ◌&&◌}
-use Rattle.std.proofs.lemmas.Bool.{ltb-true}
+use Rattle.std.proofs.Common.{ℕ, ◌-◌, ◌<◌, ◌++◌, ◌∷◌, List, [], map, replicate, refl}
 use Rattle.std.proofs.lemmas.List.Elements.{All-nil, All-cons, All-append, All-map, All-filter, All-replicate, All-weaker}
-use Rattle.std.specs.Prelude.{nat_lt, filter, flat_map, codes}
-use Rattle.std.specs.Int.{next_multiple_of}
-use Rattle.std.specs.List.{All, list_all}
-use Rattle.byte_core.specs.declared.fields.Field.{Field}
-use Rattle.byte_core.specs.Number.{little_bytes}
+use Rattle.std.specs.Prelude.{filter, flat_map, codes}
+use Rattle.std.specs.List.{All}
 use Rattle.byte_core.specs.Fields.{field_bytes}
-use Rattle.byte_core.specs.LaidOut.{Aligned, laid_out, end_behind}
+use Rattle.byte_core.specs.LaidOut.{Aligned, laid_out}
+use Rattle.byte_core.proofs.Bytes.{IsByte, AreBytes, HoldsBytes, zero_is, decided, every, bytes-flat_map, bytes-field_bytes, bytes-string_bytes_of, bytes-laid_out}
 use Rattle.object_core.specs.LinkTable.{ElfTable, ElfTableSection, ElfTableSymbol, ElfRelocation}
 use Rattle.image_read.specs.ElfFile.{ElfSectionRow, ElfSymbolRow}
-use Rattle.object_elf.specs.Layout.{is_relocated, with_zero, relocation_name, string_bytes_of, section_names, symbol_names, parts_of, end_of_parts, headers_start}
+use Rattle.object_elf.specs.Layout.{is_relocated, relocation_name, section_names, symbol_names, parts_of, end_of_parts, headers_start}
 use Rattle.object_elf.specs.ElfHolds.{header_for, null_symbol, record_for}
 use Rattle.object_elf.specs.File.{header_fields, header_bytes, section_row_fields, section_row_bytes, symbol_row_fields, symbol_row_bytes, relocation_row_fields, relocation_row_bytes, section_contents, relocation_contents, symbol_rows_from, symbol_contents, string_contents, contents_of, section_rows, elf_file}
 use Rattle.object_elf.specs.Fitting.{IsOfBytes}
-
-abbrev IsByte : ℕ → Type 0
-IsByte x = x < 256
-
-abbrev AreBytes : List ℕ → Type 0
-AreBytes xs = All IsByte xs
-
--- -- lists
-
-zero_is : IsByte 0
-zero_is = omega arith
-
-both : (a b : Bool) → (a && b) ≡ true → (a ≡ true) × (b ≡ true)
-both true true h = (refl, refl)
-both true false h = absurd (cc)
-both false b h = absurd (cc)
-
-is_byte : (x : ℕ) → nat_lt x 256 ≡ true → IsByte x
-is_byte x h = ltb-true x 256 h
-
--- a text whose letters are seen
-decided : (xs : List ℕ) → list_all (λ x. nat_lt x 256) xs ≡ true → AreBytes xs
-decided [] h = All-nil IsByte
-decided (x ∷ xs) h = let h = both (nat_lt x 256) (list_all (λ x. nat_lt x 256) xs) h in All-cons IsByte x xs (is_byte x h.0) (decided xs h.1)
-
-every : {X : Type 0} (P : X → Type 0) → ((x : X) → P x) → (xs : List X) → All P xs
-every P f [] = All-nil P
-every P f (x ∷ xs) = All-cons P x xs (f x) (every P f xs)
-
-first_of : {X : Type 0} (P : X → Type 0) (x : X) (xs : List X) → All P (x ∷ xs) → P x
-first_of P x xs h = h 0 x (omega arith)
-
-others_of : {X : Type 0} (P : X → Type 0) (x : X) (xs : List X) → All P (x ∷ xs) → All P xs
-others_of P x xs h k d below = h (suc k) d (omega (arith, below))
-
-bytes-flat_map : {X : Type 0} (f : X → List ℕ) (xs : List X) → All (λ x. AreBytes (f x)) xs → AreBytes (flat_map f xs)
-bytes-flat_map f [] h = All-nil IsByte
-bytes-flat_map f (x ∷ xs) h = All-append IsByte (f x) (flat_map f xs) (first_of (λ y. AreBytes (f y)) x xs h) (bytes-flat_map f xs (others_of (λ y. AreBytes (f y)) x xs h))
-
--- -- numbers
-
-bytes-little_bytes : (w n : ℕ) → AreBytes (little_bytes w n)
-unfolding little_bytes
-bytes-little_bytes zero n = All-nil IsByte
-bytes-little_bytes (suc w) n = All-cons IsByte (n % 256) (little_bytes w (n / 256)) (omega arith) (bytes-little_bytes w (n / 256))
-
-bytes-field_bytes : (fs : List Field) → AreBytes (field_bytes fs)
-unfolding field_bytes
-bytes-field_bytes [] = All-nil IsByte
-bytes-field_bytes (f ∷ fs) = All-append IsByte (little_bytes f.width f.value) (field_bytes fs) (bytes-little_bytes f.width f.value) (bytes-field_bytes fs)
-
--- -- names
-
-bytes-string_bytes_of : (names : List (List ℕ)) → All AreBytes names → AreBytes (string_bytes_of names)
-unfolding string_bytes_of
-bytes-string_bytes_of names h =
-    let last : AreBytes (0 ∷ []) = All-cons IsByte 0 [] zero_is (All-nil IsByte) in
-    let ended : All (λ (name : List ℕ). AreBytes (with_zero name)) names = All-weaker AreBytes (λ (name : List ℕ). AreBytes (with_zero name)) (λ name bytes. All-append IsByte name (0 ∷ []) bytes last) names h in
-    All-cons IsByte 0 (flat_map with_zero names) zero_is (bytes-flat_map with_zero names ended)
 
 bytes-section_names : (t : ElfTable) → IsOfBytes t → All AreBytes (section_names t)
 unfolding section_names
@@ -88,18 +26,6 @@ bytes-section_names t h =
     let middle = All-cons AreBytes (codes ".note.GNU-stack") records (decided (codes ".note.GNU-stack") refl) (All-map AreBytes relocation_name relocated longer) in
     let back = All-cons AreBytes (codes ".symtab") (codes ".strtab" ∷ codes ".shstrtab" ∷ []) (decided (codes ".symtab") refl) (All-cons AreBytes (codes ".strtab") (codes ".shstrtab" ∷ []) (decided (codes ".strtab") refl) (All-cons AreBytes (codes ".shstrtab") [] (decided (codes ".shstrtab") refl) (All-nil AreBytes))) in
     All-append AreBytes (own ++ codes ".note.GNU-stack" ∷ records) tables (All-append AreBytes own (codes ".note.GNU-stack" ∷ records) front middle) back
-
--- -- contents
-
-abbrev HoldsBytes : Aligned → Type 0
-HoldsBytes c = AreBytes c.bytes
-
-bytes-laid_out : (at : ℕ) (cs : List Aligned) → All HoldsBytes cs → AreBytes (laid_out at cs)
-unfolding laid_out
-bytes-laid_out at [] h = All-nil IsByte
-bytes-laid_out at (c ∷ cs) h =
-    let gap : ℕ = next_multiple_of at c.align - at in
-    All-append IsByte (replicate gap 0) (c.bytes ++ laid_out (end_behind at c) cs) (All-replicate IsByte gap 0 zero_is) (All-append IsByte c.bytes (laid_out (end_behind at c) cs) (first_of HoldsBytes c cs h) (bytes-laid_out (end_behind at c) cs (others_of HoldsBytes c cs h)))
 
 bytes-contents_of : (t : ElfTable) → IsOfBytes t → All HoldsBytes (contents_of t)
 unfolding contents_of

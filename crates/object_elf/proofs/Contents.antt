@@ -6,10 +6,11 @@ use Rattle.std.proofs.Math.Dec.{eqb-suc-zero}
 use Rattle.byte_core.specs.Number.{bytes_at}
 use Rattle.byte_core.proofs.Standing.{StandsAt, row_stands, bytes_stand}
 use Rattle.byte_core.proofs.LaidOut.{zeros, length-zeros}
+use Rattle.byte_core.specs.Strings.{IsZero, string_bytes_of}
 use Rattle.object_core.specs.LinkTable.{ElfTable, ElfTableSection, ElfRelocation}
 use Rattle.image_read.specs.ElfFile.{ElfSectionRow, relocation_row_at, stored_bytes}
-use Rattle.object_elf.specs.Layout.{Part, content_part, is_relocated, symbol_table_row, string_bytes_of, section_names, symbol_names, parts_of, end_of_parts, start_of, headers_start}
-use Rattle.object_elf.specs.ElfHolds.{record_for, row_at, part_offset, relocations_row, IsZero}
+use Rattle.object_elf.specs.Layout.{Part, content_part, is_relocated, symbol_table_row, section_names, symbol_names, parts_of, end_of_parts, start_of, headers_start}
+use Rattle.object_elf.specs.ElfHolds.{record_for, row_at, part_offset, relocations_row}
 use Rattle.object_elf.specs.File.{section_contents, relocation_contents, relocation_row_bytes, string_contents, elf_file, contents_of}
 use Rattle.object_elf.specs.Fitting.{FitsElf, FitsRelocation, HasContents}
 use Rattle.object_elf.proofs.Rows.{FitsRelocationRow, relocation_row_stands, length-relocation_row_bytes}

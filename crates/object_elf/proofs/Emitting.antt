@@ -11,6 +11,7 @@ use Rattle.byte_core.specs.LaidOut.{Aligned, LaysOut, end_of_aligned, laid_out}
 use Rattle.byte_core.proofs.LaidOut.{lays_as, lays_bytes, lays_more, length-laid_out, end_of_aligned-append}
 use Rattle.byte_core.proofs.Writing.{filled_whole}
 use Rattle.byte_core.proofs.Standing.{length-rows}
+use Rattle.byte_core.specs.Strings.{string_bytes_of, strings_size, with_zero}
 use Rattle.object_core.specs.Object.{SymbolData, SectionData, ObjectData, is_local, is_global}
 use Rattle.object_core.specs.LinkTable.{ElfTable, ElfTableSection, ElfTableSymbol}
 use Rattle.object_core.specs.declared.relocation.Relocation.{Relocation}
@@ -18,7 +19,7 @@ use Rattle.ir_core.specs.declared.target.BinaryFormat.TheVariants.{Elf}
 use Rattle.object_core.specs.Appending.{AreSections}
 use Rattle.object_core.specs.WellFormed.{IsFormedElf}
 use Rattle.object_core.specs.ElfRows.{elf_machine, elf_symbol, elf_section, elf_relocation, elf_table_of, row_in}
-use Rattle.object_elf.specs.Layout.{strings_size, with_zero, string_bytes_of, is_relocated, section_names, symbol_names, parts_of, end_of_parts, headers_start}
+use Rattle.object_elf.specs.Layout.{is_relocated, section_names, symbol_names, parts_of, end_of_parts, headers_start}
 use Rattle.object_elf.specs.ElfHolds.{null_symbol, header_with, header_for, record_for}
 use Rattle.object_elf.specs.File.{relocation_row_bytes, header_bytes, section_row_bytes, symbol_row_bytes, symbol_rows_from, symbol_contents, string_contents, section_contents, relocation_contents, section_rows, contents_of, elf_file}
 use Rattle.object_elf.specs.Fitting.{FitsElf, HasContents}
@@ -31,7 +32,8 @@ use Rattle.object_elf.proofs.Planning.{rows_are_rows}
 use Rattle.object_elf.proofs.Tables.{relocated_is, front_count_is, own_names_are, record_names_are, chosen_counts, symbol_names_size_is, section_names_size_is}
 use Rattle.std.proofs.lemmas.Option.{get_or_from_slice_get}
 use Rattle.object_elf.proofs.Rows.{length-symbol_row_bytes}
-use Rattle.object_elf.proofs.Parts.{fit_by, length-symbol_rows_from, length-string_bytes_of}
+use Rattle.byte_core.proofs.StringTables.{length-string_bytes_of}
+use Rattle.object_elf.proofs.Parts.{fit_by, length-symbol_rows_from}
 use Rattle.object_elf.proofs.Places.{whole_end_is, whole_end_by, length-header_bytes}
 
 -- ---- the symbol table

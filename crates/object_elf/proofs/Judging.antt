@@ -1,34 +1,17 @@
 -- Answers that are judged by the limits.
-use Rattle.std.proofs.Common.{◌≡◌, ℕ, ◌<◌, ◌^◌, refl, ap, Bool, true, false, cond, Option, Some, None, Result, Ok, Err}
-use Rattle.std.specs.Prelude.{nat_le, IfSome, is_ok}
+use Rattle.std.proofs.Common.{◌≡◌, ◌^◌, ap, true, Option, Some, None, Result, Ok, Err}
+use Rattle.std.specs.Prelude.{IfSome, is_ok}
 use Rattle.std.specs.Option.{option_or}
-use Rattle.std.proofs.lemmas.Bool.{leb-false}
 use Rattle.object_core.specs.declared.error.EmitError.{EmitError}
 use Rattle.object_core.specs.declared.error.EmitError.TheVariants.{TooMany, TooLarge, OutOfMemory}
 use Rattle.object_core.specs.declared.error.What.TheVariants.{Sections, Symbols, Contents, Names}
+use Rattle.object_core.proofs.Judged.{below, first_none, rest_none}
 use Rattle.object_core.specs.Object.{ObjectData}
 use Rattle.object_core.specs.ElfRows.{elf_table_of}
 use Rattle.object_elf.specs.Counts.{Counts, elf_counts}
 use Rattle.object_elf.specs.Limits.{limit_if, limit_cause, IsJudged, IsWithinLimits}
 use Rattle.object_elf.specs.PlainCounts.{plain_counts}
 use Rattle.object_elf.proofs.Tables.{counts_are}
-
--- -- what no limit means
-
-below_by : (bound n : ℕ) (e : EmitError) (b : Bool) → nat_le bound n ≡ b → cond b (Some e) None ≡ None → n < bound
-below_by bound n e true t h = absurd (cc)
-below_by bound n e false t h = leb-false bound n t
-
-below : (bound n : ℕ) (e : EmitError) → limit_if bound n e ≡ None → n < bound
-below bound n e h = below_by bound n e (nat_le bound n) refl h
-
-first_none : (a b : Option EmitError) → option_or a b ≡ None → a ≡ None
-first_none None b h = refl
-first_none (Some e) b h = absurd (cc)
-
-rest_none : (a b : Option EmitError) → option_or a b ≡ None → b ≡ None
-rest_none None b h = h
-rest_none (Some e) b h = absurd (cc)
 
 pub within_limits : (c : Counts) → limit_cause c ≡ None → IsWithinLimits c
 within_limits c h =

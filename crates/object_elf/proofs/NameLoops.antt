@@ -4,8 +4,8 @@ use Rattle.std.specs.Prelude.{filter, flat_map, sum_by}
 use Rattle.std.proofs.lemmas.List.Sums.{sum_by-cons}
 use Rattle.std.proofs.lemmas.Option.{get_or_from_slice_get}
 use Rattle.byte_core.proofs.Lists.{get_within, item_drop, flat_more}
+use Rattle.byte_core.specs.Strings.{with_zero}
 use Rattle.object_core.specs.Object.{SectionData}
-use Rattle.object_elf.specs.Layout.{with_zero}
 use Rattle.object_elf.specs.Writing.{own_name, own_name_size, record_name_size, has_relocations}
 
 -- the element of a place is the first that is left there

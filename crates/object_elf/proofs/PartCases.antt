@@ -5,8 +5,9 @@ use Rattle.std.specs.List.{enumerate_from}
 use Rattle.std.proofs.lemmas.List.{length-map, map-append}
 use Rattle.std.proofs.lemmas.List.Sums.{sum_by-cons, length-filter}
 use Rattle.byte_core.specs.LaidOut.{Aligned}
+use Rattle.byte_core.specs.Strings.{strings_size}
 use Rattle.object_core.specs.LinkTable.{ElfTable, ElfTableSection}
-use Rattle.object_elf.specs.Layout.{Part, is_relocated, strings_size, section_names, symbol_names, content_part, note_part, relocation_part, relocation_name, symbol_part, string_part, table_parts, parts_of}
+use Rattle.object_elf.specs.Layout.{Part, is_relocated, section_names, symbol_names, content_part, note_part, relocation_part, relocation_name, symbol_part, string_part, table_parts, parts_of}
 use Rattle.object_elf.specs.File.{section_contents, relocation_contents, symbol_contents, string_contents, contents_of}
 use Rattle.object_elf.specs.PartView.{part_name}
 use Rattle.byte_core.proofs.Lists.{get_left, get_right, get_append, get_map, get_map_from, get_filter}

@@ -8,10 +8,11 @@ use Rattle.std.proofs.lemmas.List.{take_more, drop_more, drop_all, map-append, l
 use Rattle.std.proofs.lemmas.List.Sums.{sum_by-cons, sum_by-append, fold-append}
 use Rattle.byte_core.proofs.Lists.{item_take, get_within, filter_append}
 use Rattle.std.proofs.lemmas.Option.{get_or_from_slice_get}
+use Rattle.byte_core.specs.Strings.{strings_size}
 use Rattle.object_core.specs.Object.{SectionData}
 use Rattle.object_elf.specs.declared.layout.PartHeader.{PartHeader}
 use Rattle.object_elf.specs.declared.next_row.NextRow.{NextRow}
-use Rattle.object_elf.specs.Layout.{Part, is_stored, start_after, end_after, end_of_parts, strings_size, section_names, parts_of, file_length}
+use Rattle.object_elf.specs.Layout.{Part, is_stored, start_after, end_after, end_of_parts, section_names, parts_of, file_length}
 use Rattle.object_elf.specs.ElfHolds.{null_section}
 use Rattle.object_elf.specs.File.{section_row_bytes, section_row_with, section_rows, section_rows_from}
 use Rattle.object_elf.specs.Plan.{HasPlaces, places_of}

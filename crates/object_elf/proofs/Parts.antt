@@ -1,14 +1,15 @@
 -- The parts of a file and their contents stand at the same places.
-use Rattle.std.proofs.Common.{◌≡◌, ℕ, zero, suc, ◌+◌, ◌==◌, List, [], ◌∷◌, ◌++◌, length, take, map, refl, ap, sym, ◌∙◌, arith, length-append, Some, Bool, true, false, not, slice_get, inl, inr, cond}
-use Rattle.std.specs.Prelude.{filter, flat_map, fold, sum_by}
+use Rattle.std.proofs.Common.{◌≡◌, ℕ, zero, suc, ◌+◌, ◌==◌, List, [], ◌∷◌, ◌++◌, length, take, map, refl, ap, sym, ◌∙◌, arith, Some, Bool, true, false, not, slice_get, inl, inr, cond}
+use Rattle.std.specs.Prelude.{filter, fold}
 use Rattle.std.specs.List.{enumerate_from}
 use Rattle.std.specs.Int.{next_multiple_of}
-use Rattle.std.proofs.lemmas.List.Sums.{sum_by-cons}
 use Rattle.byte_core.specs.LaidOut.{Aligned, end_behind, end_of_aligned}
 use Rattle.byte_core.proofs.LaidOut.{next_multiple_of_one}
+use Rattle.byte_core.proofs.StringTables.{length-string_bytes_of}
 use Rattle.byte_core.proofs.Standing.{length-rows}
+use Rattle.byte_core.specs.Strings.{strings_size}
 use Rattle.object_core.specs.LinkTable.{ElfTable, ElfTableSection, ElfTableSymbol}
-use Rattle.object_elf.specs.Layout.{Part, is_relocated, with_zero, string_bytes_of, strings_size, section_names, symbol_names, content_part, note_part, relocation_part, symbol_part, string_part, parts_of, is_stored, start_after, end_after}
+use Rattle.object_elf.specs.Layout.{Part, is_relocated, section_names, symbol_names, content_part, note_part, relocation_part, symbol_part, string_part, parts_of, is_stored, start_after, end_after}
 use Rattle.object_elf.specs.ElfHolds.{null_symbol, record_for}
 use Rattle.object_elf.specs.File.{section_contents, relocation_contents, relocation_row_bytes, symbol_row_bytes, symbol_rows_from, symbol_contents, string_contents, contents_of}
 use Rattle.object_elf.specs.Fitting.{FitsElf, HasContents}
@@ -115,15 +116,6 @@ fit_symbols : (t : ElfTable) → FitsPart (symbol_part t) (symbol_contents t.sym
 fit_symbols t =
     fit_stored (symbol_part t) (symbol_contents t.symbols) refl refl
     (omega (arith, length-rows symbol_row_bytes 24 length-symbol_row_bytes (null_symbol ∷ symbol_rows_from 1 t.symbols), length-symbol_rows_from 1 t.symbols))
-
-pub length-with_zeros : (names : List (List ℕ)) → length (flat_map with_zero names) ≡ sum_by (λ name. length name + 1) names
-length-with_zeros [] = refl
-length-with_zeros (name ∷ names) =
-    omega (arith, length-append (with_zero name) (flat_map with_zero names), length-append name (0 ∷ []), length-with_zeros names, sum_by-cons (λ (x : List ℕ). length x + 1) name names)
-
-pub length-string_bytes_of : (names : List (List ℕ)) → length (string_bytes_of names) ≡ strings_size names
-unfolding string_bytes_of
-length-string_bytes_of names = omega (arith, length-with_zeros names)
 
 fit_strings : (name : List ℕ) (names : List (List ℕ)) → FitsPart (string_part name (strings_size names)) (string_contents names)
 fit_strings name names = fit_stored (string_part name (strings_size names)) (string_contents names) refl refl (sym (length-string_bytes_of names))

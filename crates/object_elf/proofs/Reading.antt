@@ -1,10 +1,11 @@
 -- The file of a table meets the conditions of reading: header, sections and their names.
 use Rattle.std.proofs.Common.{◌≡◌, ℕ, zero, suc, ◌+◌, ◌*◌, ◌<◌, ◌≤◌, List, length, refl, ap, sym, ◌∙◌, arith, Some, slice_get, lit<, codes}
 use Rattle.byte_core.proofs.Standing.{StandsAt}
+use Rattle.byte_core.specs.Strings.{strings_size}
 use Rattle.object_core.specs.LinkTable.{ElfTable}
 use Rattle.image_read.specs.ElfFile.{ElfHeader, header_of, ElfSectionRow, section_row, section_row_at, section_name}
 use Rattle.image_read.specs.ElfImage.{IsStrings}
-use Rattle.object_elf.specs.Layout.{Part, symbol_table_row, strings_size, section_names, parts_of, start_of, headers_start, string_part}
+use Rattle.object_elf.specs.Layout.{Part, symbol_table_row, section_names, parts_of, start_of, headers_start, string_part}
 use Rattle.object_elf.specs.ElfHolds.{header_for, row_for, row_at, part_offset}
 use Rattle.object_elf.specs.File.{elf_file}
 use Rattle.object_elf.specs.Fitting.{FitsElf}
@@ -14,7 +15,8 @@ use Rattle.object_elf.proofs.PartCases.{front_count, part_case, length-parts_of,
 use Rattle.object_elf.proofs.Places.{header_here}
 use Rattle.object_elf.proofs.SectionRows.{section_row_here}
 use Rattle.object_elf.proofs.Contents.{section_texts_stand}
-use Rattle.object_elf.proofs.Names.{name_here, part_text, part_name_get}
+use Rattle.byte_core.proofs.StringTables.{name_here}
+use Rattle.object_elf.proofs.Names.{part_text, part_name_get}
 
 header_fits : (t : ElfTable) → FitsElf t → FitsHeader (header_for t)
 header_fits t f = record {

@@ -2,10 +2,11 @@
 use Rattle.std.proofs.Common.{◌≡◌, ◌≢◌, ℕ, zero, suc, ◌+◌, ◌*◌, ◌/◌, ◌<◌, ◌≤◌, ◌==◌, length, refl, ap, sym, ◌∙◌, arith, Some, true, not, slice_get, ◌⊎◌, inl, inr, subst, codes}
 use Rattle.std.proofs.lemmas.Bool.{and_parts}
 use Rattle.byte_core.proofs.Standing.{stands_inside}
+use Rattle.byte_core.specs.Strings.{strings_size}
 use Rattle.object_core.specs.LinkTable.{ElfTable, ElfTableSection, ElfTableSymbol}
 use Rattle.image_read.specs.ElfFile.{header_of, ElfSectionRow, section_row, symbol_row, symbol_row_at, symbol_name, entries}
 use Rattle.image_read.specs.ElfImage.{IsStrings, IsSection, IsSymbol, IsSymbolTable}
-use Rattle.object_elf.specs.Layout.{Part, symbol_table_row, strings_size, symbol_names, parts_of, is_stored, start_of, symbol_part, string_part}
+use Rattle.object_elf.specs.Layout.{Part, symbol_table_row, symbol_names, parts_of, is_stored, start_of, symbol_part, string_part}
 use Rattle.object_elf.specs.ElfHolds.{row_for, part_offset, symbol_for}
 use Rattle.object_elf.specs.File.{elf_file}
 use Rattle.object_elf.specs.Fitting.{FitsElf, HasContents}
@@ -15,7 +16,7 @@ use Rattle.object_elf.proofs.PartCases.PartCase.{is_content, is_note, is_relocat
 use Rattle.object_elf.proofs.SectionRows.{PartHere, part_here}
 use Rattle.object_elf.proofs.SymbolRows.{symbol_row_here}
 use Rattle.object_elf.proofs.Contents.{symbol_texts_stand}
-use Rattle.object_elf.proofs.Names.{name_here}
+use Rattle.byte_core.proofs.StringTables.{name_here}
 use Rattle.object_elf.proofs.Reading.{row_of, row_of_part, shnum_is, section_row_is, section_name_is, strings_row}
 
 -- ---- the types of the parts

@@ -4,9 +4,10 @@ use Rattle.std.specs.Prelude.{fold, sum_by}
 use Rattle.std.proofs.lemmas.List.Sums.{sum_by-cons, sum_by-take-le}
 use Rattle.byte_core.specs.LaidOut.{Aligned}
 use Rattle.byte_core.proofs.Standing.{StandsAt, stands_inside, row_stands}
+use Rattle.byte_core.specs.Strings.{name_place, strings_size}
 use Rattle.object_core.specs.LinkTable.{ElfTable, ElfTableSection}
 use Rattle.image_read.specs.ElfFile.{ElfSectionRow}
-use Rattle.object_elf.specs.Layout.{Part, strings_size, name_place, section_names, parts_of, is_stored, start_after, end_after, end_of_parts, start_of, headers_start, content_part, symbol_part}
+use Rattle.object_elf.specs.Layout.{Part, section_names, parts_of, is_stored, start_after, end_after, end_of_parts, start_of, headers_start, content_part, symbol_part}
 use Rattle.object_elf.specs.ElfHolds.{null_section, row_for, row_at, part_offset}
 use Rattle.object_elf.specs.File.{section_row_with, section_row_bytes, section_rows, section_rows_from, contents_of, elf_file}
 use Rattle.object_elf.specs.Fitting.{FitsElf, FitsSection}

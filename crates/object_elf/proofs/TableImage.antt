@@ -10,10 +10,11 @@ use Rattle.byte_core.specs.Number.{bytes_at}
 use Rattle.byte_core.specs.LaidOut.{Aligned}
 use Rattle.byte_core.proofs.Standing.{bytes_stand}
 use Rattle.byte_core.proofs.Lists.{get_append, get_map, get_map_from, get_filter, get_within, passing}
+use Rattle.byte_core.specs.Strings.{strings_size}
 use Rattle.object_core.specs.LinkTable.{ElfTable, ElfTableSection}
 use Rattle.image_read.specs.ElfFile.{header_of, ElfHeader, ElfSectionRow, ElfRelocationRow, section_row, stored_bytes, relocation_row, relocation_row_at, entries, row_numbers, symbol_table, has_bytes}
 use Rattle.image_read.specs.ElfImage.{ElfSectionData, ElfSymbolData, section_data, records_for, symbol_data, symbols_in, locals_in, elf_image_of, IsElf}
-use Rattle.object_elf.specs.Layout.{Part, is_relocated, strings_size, section_names, symbol_names, content_part, note_part, relocation_part, symbol_part, string_part, parts_of, symbol_table_row, is_stored, start_of}
+use Rattle.object_elf.specs.Layout.{Part, is_relocated, section_names, symbol_names, content_part, note_part, relocation_part, symbol_part, string_part, parts_of, symbol_table_row, is_stored, start_of}
 use Rattle.object_elf.specs.ElfHolds.{row_for, part_offset, record_for, relocations_row}
 use Rattle.object_elf.specs.File.{elf_file, contents_of, relocation_contents, symbol_contents, string_contents}
 use Rattle.object_elf.specs.Fitting.{FitsElf}

@@ -4,10 +4,11 @@ use Rattle.std.specs.Prelude.{filter, count_by, sum_by}
 use Rattle.std.specs.List.{enumerate_from}
 use Rattle.std.proofs.lemmas.List.{length-map, map-append}
 use Rattle.std.proofs.lemmas.List.Sums.{sum_by-cons, sum_by-append, length-filter}
+use Rattle.byte_core.specs.Strings.{strings_size}
 use Rattle.object_core.specs.Object.{SymbolData, SectionData, ObjectData, is_local, is_global}
 use Rattle.object_core.specs.ElfRows.{elf_symbol, elf_section, elf_relocation, elf_table_of}
 use Rattle.object_core.specs.LinkTable.{ElfTable, ElfTableSection, ElfTableSymbol}
-use Rattle.object_elf.specs.Layout.{is_relocated, symbol_table_row, strings_size, section_names, symbol_names, content_part, note_part, relocation_part, relocation_name, symbol_part, symbol_part_with, string_part, parts_of}
+use Rattle.object_elf.specs.Layout.{is_relocated, symbol_table_row, section_names, symbol_names, content_part, note_part, relocation_part, relocation_name, symbol_part, symbol_part_with, string_part, parts_of}
 use Rattle.object_elf.specs.Counts.{elf_counts}
 use Rattle.object_elf.specs.Writing as rows
 use Rattle.object_elf.specs.Writing.{has_relocations, chosen}

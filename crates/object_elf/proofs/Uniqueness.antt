@@ -6,15 +6,17 @@ use Rattle.std.specs.List.{All}
 use Rattle.std.proofs.lemmas.List.{take_all}
 use Rattle.byte_core.specs.Number.{bytes_at}
 use Rattle.byte_core.proofs.Lists.{get_exists}
+use Rattle.byte_core.specs.Strings.{string_bytes_of, strings_size}
 use Rattle.object_core.specs.LinkTable.{ElfTable, ElfTableSection}
 use Rattle.image_read.specs.ElfFile.{ElfSectionRow, has_bytes, stored_bytes, relocation_row_at, symbol_row_at}
-use Rattle.object_elf.specs.Layout.{Part, symbol_table_row, string_bytes_of, strings_size, section_names, symbol_names, content_part, note_part, symbol_part, parts_of, is_stored, start_after, end_after, end_of_parts, start_of, headers_start, file_length}
+use Rattle.object_elf.specs.Layout.{Part, symbol_table_row, section_names, symbol_names, content_part, note_part, symbol_part, parts_of, is_stored, start_after, end_after, end_of_parts, start_of, headers_start, file_length}
 use Rattle.object_elf.specs.ElfHolds.{ElfHolds, row_for, row_at, part_offset, relocations_row}
 use Rattle.object_elf.specs.Fitting.{FitsElf, HasContents}
-use Rattle.object_elf.proofs.Parts.{length-string_bytes_of}
+use Rattle.byte_core.proofs.StringTables.{length-string_bytes_of}
 use Rattle.object_elf.proofs.PartCases.{front_count, PartCase, Relocates, part_case}
 use Rattle.object_elf.proofs.PartCases.PartCase.{is_content, is_note, is_relocations, is_symbols, is_symbol_strings, is_section_strings}
-use Rattle.object_elf.proofs.Same.{AreFiles, Agree, agree_all, agree_at, agree_told, agree_header, agree_section_row, agree_symbol_row, agree_relocation_row}
+use Rattle.byte_core.proofs.Agreeing.{AreFiles, Agree, agree_all, agree_at, agree_told}
+use Rattle.object_elf.proofs.Same.{agree_header, agree_section_row, agree_symbol_row, agree_relocation_row}
 
 -- ---- where parts end
 

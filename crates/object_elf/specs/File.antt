@@ -4,9 +4,10 @@ use Rattle.std.specs.Int.{cast_unsigned, w64}
 use Rattle.byte_core.specs.declared.fields.Field.{Field}
 use Rattle.byte_core.specs.Fields.{field_bytes}
 use Rattle.byte_core.specs.LaidOut.{Aligned, laid_out}
+use Rattle.byte_core.specs.Strings.{string_bytes_of}
 use Rattle.object_core.specs.LinkTable.{ElfTable, ElfTableSection, ElfTableSymbol}
 use Rattle.image_read.specs.ElfFile.{ElfHeader, ElfSectionRow, ElfSymbolRow, ElfRelocationRow}
-use Rattle.object_elf.specs.Layout.{Part, is_relocated, string_bytes_of, section_names, symbol_names, parts_of, end_of_parts, start_after, end_after, headers_start}
+use Rattle.object_elf.specs.Layout.{Part, is_relocated, section_names, symbol_names, parts_of, end_of_parts, start_after, end_after, headers_start}
 use Rattle.object_elf.specs.ElfHolds.{header_for, null_section, null_symbol, record_for}
 
 -- -- rows

@@ -2,8 +2,9 @@
 use Rattle.std.specs.Prelude.{◌≡◌, ℕ, ◌+◌, ◌^◌, ◌<◌, ◌≤◌, ◌==◌, ◌⊎◌, false, List, length, slice_get, Some, FitsSigned}
 use Rattle.std.specs.List.{list_any, All}
 use Rattle.std.specs.Int.{w64}
+use Rattle.byte_core.specs.Strings.{strings_size}
 use Rattle.object_core.specs.LinkTable.{ElfTable, ElfTableSection, ElfTableSymbol, ElfRelocation}
-use Rattle.object_elf.specs.Layout.{parts_of, strings_size, section_names, symbol_names, file_length}
+use Rattle.object_elf.specs.Layout.{parts_of, section_names, symbol_names, file_length}
 
 -- no byte of the text is zero
 abbrev pub IsText : List ℕ → Type 0

@@ -2,10 +2,11 @@
 -- project's own.
 use Rattle.std.specs.Prelude.{◌≡◌, ℕ, List, [], ◌∷◌, ◌++◌, map, filter, codes}
 use Rattle.std.specs.List.{enumerate_from}
+use Rattle.byte_core.specs.Strings.{string_bytes_of, strings_size}
 use Rattle.object_core.specs.LinkTable.{ElfTable, ElfTableSection, ElfTableSymbol}
 use Rattle.image_read.specs.ElfFile.{ElfRelocationRow}
 use Rattle.image_read.specs.ElfImage.{ElfSectionData, ElfSymbolData, ElfImageData, ElfReads}
-use Rattle.object_elf.specs.Layout.{Part, is_relocated, content_part, note_part, relocation_part, symbol_part, string_part, strings_size, section_names, symbol_names, string_bytes_of}
+use Rattle.object_elf.specs.Layout.{Part, is_relocated, content_part, note_part, relocation_part, symbol_part, string_part, section_names, symbol_names}
 use Rattle.object_elf.specs.ElfHolds.{record_for}
 use Rattle.object_elf.specs.File.{relocation_contents, symbol_contents}
 

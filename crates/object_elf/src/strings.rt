@@ -1,8 +1,9 @@
 //! String sections: System V gABI, "String Table". Every name is stored, also an empty or a repeated one.
 
 ghost use Rattle.std.specs.Prelude.{◌≡◌, ◌+◌, ◌≤◌, ◌∷◌, [], ◌++◌, take, length, map, filter, flat_map, sum_by, codes};
+ghost use Rattle.byte_core.specs.Strings.{string_bytes_of, with_zero};
 ghost use Rattle.object_core.specs.ElfRows.{elf_table_of};
-ghost use Rattle.object_elf.specs.Layout.{with_zero, string_bytes_of, section_names};
+ghost use Rattle.object_elf.specs.Layout.{section_names};
 ghost use Rattle.object_elf.specs.PlainCounts.{section_name_size, symbol_name_size};
 ghost use Rattle.object_elf.specs.Writing.{chosen, chosen_names, names_size, own_name, own_name_size, record_name, record_name_size, has_relocations, rows_in_order, row_names};
 

@@ -1,15 +1,13 @@
 -- The bytes of a written file are bytes, where those of its table are.
-use Rattle.std.proofs.Common.{◌≡◌, ℕ, zero, suc, ◌+◌, ◌-◌, ◌/◌, ◌%◌, ◌<◌, ◌++◌, ◌∷◌, List, [], Bool, true, false, cond, map, length, replicate, refl, arith, ◌&&◌, Option, Some, None}
-use Rattle.std.proofs.lemmas.List.Elements.{All-nil, All-cons, All-append, All-map, All-filter, All-head, All-tail, All-replicate, All-weaker}
+use Rattle.std.proofs.Common.{◌≡◌, ℕ, ◌+◌, ◌-◌, ◌<◌, ◌++◌, ◌∷◌, List, [], Bool, true, false, cond, map, length, replicate, refl, arith, ◌&&◌, Option, Some, None}
+use Rattle.std.proofs.lemmas.List.Elements.{All-nil, All-cons, All-append, All-map, All-filter, All-head, All-tail, All-weaker}
 use Rattle.std.specs.Prelude.{nat_le, nat_lt, filter, flat_map, slice_get, slice_index_or, unwrap_or}
 use Rattle.std.specs.Int.{cast_unsigned}
 use Rattle.std.specs.List.{All, enumerate_from, filter_map, cons_option}
-use Rattle.byte_core.specs.declared.fields.Field.{Field}
-use Rattle.byte_core.specs.Number.{little_bytes}
 use Rattle.byte_core.specs.Fields.{field_bytes}
-use Rattle.byte_core.specs.LaidOut.{Aligned, laid_out, end_behind}
-use Rattle.byte_core.specs.Strings.{with_zero, string_bytes_of, zero_filled}
-use Rattle.std.specs.Int.{next_multiple_of}
+use Rattle.byte_core.specs.LaidOut.{laid_out}
+use Rattle.byte_core.specs.Strings.{string_bytes_of, zero_filled}
+use Rattle.byte_core.proofs.Bytes.{IsByte, AreBytes, HoldsBytes, bytes-zeros, every, bytes-flat_map, bytes-index, bytes-little_bytes, bytes-field_bytes, bytes-string_bytes_of, bytes-laid_out}
 use Rattle.ir_core.specs.MachO.{is_in_field, stored_number}
 use Rattle.object_core.specs.declared.kinds.MachOBuildVersion.{MachOBuildVersion}
 use Rattle.object_core.specs.LinkTable.{MachTable, MachTableSection, MachTableSymbol, MachRelocation}
@@ -19,51 +17,12 @@ use Rattle.object_macho.specs.MachHolds.{mach_header_for, segment_command, segme
 use Rattle.object_macho.specs.File.{field, mach_header_bytes, mach_header_fields, command_bytes, segment_bytes, mach_section_bytes, mach_section_fields, build_version_bytes, symtab_bytes, mach_symbol_bytes, mach_record_bytes, record_word, section_headers_from, mach_symbol_rows_from, version_bytes, aligned_contents, commands_bytes, mach_file}
 use Rattle.object_macho.specs.Fitting.{IsOfBytes}
 
-abbrev pub IsByte : ℕ → Type 0
-IsByte x = x < 256
-
-abbrev pub AreBytes : List ℕ → Type 0
-AreBytes xs = All IsByte xs
-
 -- the contents that are written, and the names, are bytes
 pub record AreWrittenBytes (t : MachTable) : Type 0 where
   pub contents : All (λ (s : MachTableSection). AreBytes (stored_contents t.cputype s)) t.sections
   pub segments : All (λ (s : MachTableSection). AreBytes s.segment) t.sections
   pub section_names : All (λ (s : MachTableSection). AreBytes s.name) t.sections
   pub symbol_names : All (λ (s : MachTableSymbol). AreBytes s.name) t.symbols
-
--- -- lists
-
-zero_is : IsByte 0
-zero_is = omega arith
-
-zeros : (n : ℕ) → AreBytes (replicate n 0)
-zeros n = All-replicate IsByte n 0 zero_is
-
-every : {X : Type 0} (P : X → Type 0) → ((x : X) → P x) → (xs : List X) → All P xs
-every P f [] = All-nil P
-every P f (x ∷ xs) = All-cons P x xs (f x) (every P f xs)
-
-bytes-flat_map : {X : Type 0} (f : X → List ℕ) (xs : List X) → All (λ x. AreBytes (f x)) xs → AreBytes (flat_map f xs)
-bytes-flat_map f [] h = All-nil IsByte
-bytes-flat_map f (x ∷ xs) h = All-append IsByte (f x) (flat_map f xs) (All-head (λ y. AreBytes (f y)) x xs h) (bytes-flat_map f xs (All-tail (λ y. AreBytes (f y)) x xs h))
-
-bytes-index : (xs : List ℕ) (k : ℕ) → AreBytes xs → IsByte (slice_index_or xs k 0)
-bytes-index [] k h = zero_is
-bytes-index (x ∷ xs) zero h = All-head IsByte x xs h
-bytes-index (x ∷ xs) (suc k) h = bytes-index xs k (All-tail IsByte x xs h)
-
--- -- numbers
-
-bytes-little_bytes : (w n : ℕ) → AreBytes (little_bytes w n)
-unfolding little_bytes
-bytes-little_bytes zero n = All-nil IsByte
-bytes-little_bytes (suc w) n = All-cons IsByte (n % 256) (little_bytes w (n / 256)) (omega arith) (bytes-little_bytes w (n / 256))
-
-bytes-field_bytes : (fs : List Field) → AreBytes (field_bytes fs)
-unfolding field_bytes
-bytes-field_bytes [] = All-nil IsByte
-bytes-field_bytes (f ∷ fs) = All-append IsByte (little_bytes f.width f.value) (field_bytes fs) (bytes-little_bytes f.width f.value) (bytes-field_bytes fs)
 
 -- -- contents
 
@@ -93,16 +52,6 @@ bytes-stored_contents : (cputype : ℕ) (s : MachTableSection) → AreBytes s.co
 unfolding stored_contents
 bytes-stored_contents cputype s h = bytes-patched cputype 0 s.relocations s.contents h
 
-abbrev HoldsBytes : Aligned → Type 0
-HoldsBytes c = AreBytes c.bytes
-
-bytes-laid_out : (at : ℕ) (cs : List Aligned) → All HoldsBytes cs → AreBytes (laid_out at cs)
-unfolding laid_out
-bytes-laid_out at [] h = All-nil IsByte
-bytes-laid_out at (c ∷ cs) h =
-    let gap : ℕ = next_multiple_of at c.align - at in
-    All-append IsByte (replicate gap 0) (c.bytes ++ laid_out (end_behind at c) cs) (zeros gap) (All-append IsByte c.bytes (laid_out (end_behind at c) cs) (All-head HoldsBytes c cs h) (bytes-laid_out (end_behind at c) cs (All-tail HoldsBytes c cs h)))
-
 written_bytes : (t : MachTable) → IsOfBytes t → AreWrittenBytes t
 written_bytes t h = record {
   contents = All-weaker (λ (s : MachTableSection). AreBytes s.contents) (λ (s : MachTableSection). AreBytes (stored_contents t.cputype s)) (bytes-stored_contents t.cputype) t.sections h.contents;
@@ -117,14 +66,7 @@ bytes-contents t h = All-map HoldsBytes (aligned_contents t.cputype) (filter is_
 -- -- names
 
 bytes-filled : (name : List ℕ) → AreBytes name → AreBytes (zero_filled 16 name)
-bytes-filled name h = All-append IsByte name (replicate (16 - length name) 0) h (zeros (16 - length name))
-
-bytes-string_bytes_of : (names : List (List ℕ)) → All AreBytes names → AreBytes (string_bytes_of names)
-unfolding string_bytes_of
-bytes-string_bytes_of names h =
-    let last : AreBytes (0 ∷ []) = All-cons IsByte 0 [] zero_is (All-nil IsByte) in
-    let ended : All (λ (name : List ℕ). AreBytes (with_zero name)) names = All-weaker AreBytes (λ (name : List ℕ). AreBytes (with_zero name)) (λ name bytes. All-append IsByte name (0 ∷ []) bytes last) names h in
-    All-cons IsByte 0 (flat_map with_zero names) zero_is (bytes-flat_map with_zero names ended)
+bytes-filled name h = All-append IsByte name (replicate (16 - length name) 0) h (bytes-zeros (16 - length name))
 
 -- -- header and commands
 
@@ -153,7 +95,7 @@ bytes-version None = All-nil IsByte
 bytes-version (Some v) = All-append IsByte (command_bytes version_command) (build_version_bytes (version_for v)) (bytes-field_bytes _) (bytes-field_bytes _)
 
 bytes-segment : (t : MachTable) → AreBytes (segment_bytes (segment_for t))
-bytes-segment t = All-append IsByte (replicate 16 0) _ (zeros 16) (bytes-field_bytes _)
+bytes-segment t = All-append IsByte (replicate 16 0) _ (bytes-zeros 16) (bytes-field_bytes _)
 
 bytes-commands : (t : MachTable) → AreWrittenBytes t → AreBytes (commands_bytes t)
 bytes-commands t h =
@@ -179,7 +121,7 @@ bytes-written t h =
     let names = bytes-string_bytes_of (mach_names t) (All-map AreBytes (λ (s : MachTableSymbol). s.name) t.symbols h.symbol_names) in
     let symbols = All-append IsByte (flat_map mach_symbol_bytes rows) (string_bytes_of (mach_names t)) (bytes-flat_map mach_symbol_bytes rows (every (λ (r : MachSymbolRow). AreBytes (mach_symbol_bytes r)) bytes-symbol rows)) names in
     let tables = All-append IsByte (flat_map mach_record_bytes records) _ (bytes-flat_map mach_record_bytes records (every (λ (r : MachRelocationRow). AreBytes (mach_record_bytes r)) bytes-record records)) symbols in
-    let padded = All-append IsByte (replicate (relocations_start t - (data_start t + contents_size t)) 0) _ (zeros _) tables in
+    let padded = All-append IsByte (replicate (relocations_start t - (data_start t + contents_size t)) 0) _ (bytes-zeros _) tables in
     let contents = All-append IsByte (laid_out 0 (map (aligned_contents t.cputype) (filter is_stored t.sections))) _ (bytes-laid_out 0 (map (aligned_contents t.cputype) (filter is_stored t.sections)) (bytes-contents t h)) padded in
     All-append IsByte (commands_bytes t) _ (bytes-commands t h) contents
 

@@ -3,7 +3,6 @@ pub mod Joining
 pub mod RecordLoops
 pub mod Addends
 pub mod Patching
-pub mod Texts
 pub mod Behind
 pub mod Places
 pub mod Reading

@@ -19,7 +19,7 @@ use Rattle.object_macho.specs.MachHolds.{mach_header_for, segment_command, segme
 use Rattle.object_macho.specs.File.{command_bytes, build_version_bytes, mach_section_bytes, mach_symbol_bytes, mach_record_bytes, section_headers_from, mach_symbol_rows_from, version_bytes, aligned_contents, commands_bytes, mach_file}
 use Rattle.object_macho.specs.Fitting.{FitsMach, FitsMachSection, FitsMachRelocation}
 use Rattle.object_macho.proofs.ReadRows.{FitsHeader, header_stands, command_stands, length-command, FitsSegment, segment_stands, version_stands, symtab_stands, FitsSectionRow, section_row_stands, length-section_row, length-zero_filled, FitsSymbolRow, symbol_row_stands, length-symbol_row, FitsRecord, record_stands, length-record}
-use Rattle.object_macho.proofs.Texts.{length-strings, name_here, name_place-lt}
+use Rattle.byte_core.proofs.StringTables.{length-string_bytes_of, name_here, name_place-lt}
 use Rattle.object_macho.proofs.Behind.{length-stored_contents, length-contents, front_of, ends_before, memory_of}
 use Rattle.object_macho.proofs.Places.{contents_of, all_records, gap_part, behind_commands, behind_gap, behind_symbols, records_part, symbols_part, strings_part, length-commands, length-records_part, length-symbols_part, header_here, segment_command_here, segment_here, headers_here, version_here, symtab_command_here, symtab_here, contents_here, gap_here, records_here, symbols_here, strings_here}
 
@@ -168,7 +168,7 @@ length-mach_file t f =
       length-zeros (relocations_start t - (data_start t + contents_size t)),
       length-records_part t,
       length-symbols_part t,
-      length-strings (mach_names t),
+      length-string_bytes_of (mach_names t),
     )
 
 section_fits : (t : MachTable) (k : ℕ) (s : MachTableSection) → FitsMach t → slice_get t.sections k ≡ Some s → FitsMachSection t s → FitsSectionRow (section_for t k s)
@@ -265,7 +265,7 @@ pub name_is : (t : MachTable) → FitsMach t → (k : ℕ) (s : MachTableSymbol)
 name_is t f k s e = name_here (mach_file t) (mach_names t) (strings_start t) k s.name (strings_here t f) (name_get t k s e) (f.symbols k s e).name
 
 pub strings_are : (t : MachTable) → FitsMach t → bytes_at (mach_file t) (strings_start t) (strings_size (mach_names t)) ≡ string_bytes_of (mach_names t)
-strings_are t f = bytes_stand (mach_file t) (string_bytes_of (mach_names t)) (strings_start t) (strings_size (mach_names t)) (strings_here t f) (length-strings (mach_names t))
+strings_are t f = bytes_stand (mach_file t) (string_bytes_of (mach_names t)) (strings_start t) (strings_size (mach_names t)) (strings_here t f) (length-string_bytes_of (mach_names t))
 
 -- -- records
 

@@ -28,7 +28,7 @@ use Rattle.object_macho.proofs.Patching.{get_enumerate}
 use Rattle.object_macho.proofs.Reading.{symbol_rows_get, inside}
 use Rattle.object_macho.proofs.Behind.{take_next}
 use Rattle.object_macho.proofs.TableFits.{inside_by}
-use Rattle.object_macho.proofs.Texts.{name_place-lt}
+use Rattle.byte_core.proofs.StringTables.{name_place-lt}
 
 -- -- sections by their numbers
 

@@ -12,7 +12,8 @@ use Rattle.object_macho.specs.MachHolds.{MachHolds}
 use Rattle.object_macho.specs.Fitting.{FitsMach, is_unstored}
 use Rattle.object_macho.proofs.Behind.{take_next, take_all, front_take, end_of_sections-end}
 use Rattle.object_macho.proofs.Reading.{inside, counts_grow}
-use Rattle.object_macho.proofs.Same.{AreFiles, Agree, agree_all, agree_at, agree_told, agree_header, agree_command, agree_segment, agree_section, agree_version, agree_symtab, agree_symbol, agree_record}
+use Rattle.byte_core.proofs.Agreeing.{AreFiles, Agree, agree_all, agree_at, agree_told}
+use Rattle.object_macho.proofs.Same.{agree_header, agree_command, agree_segment, agree_section, agree_version, agree_symtab, agree_symbol, agree_record}
 
 -- both files hold the table
 record Both (b c : List ℕ) (t : MachTable) : Type 0 where

@@ -1,9 +1,12 @@
 -- That the addends of a table are read back from its file.
 use Rattle.std.specs.Prelude.{◌≡◌, ◌≢◌, ℕ, ◌+◌, ◌-◌, ◌<◌, ◌≤◌, ◌⊎◌, true, List, length, flat_map, take, slice_get, Some}
+use Rattle.std.specs.List.{All}
 use Rattle.ir_core.specs.MachO.{has_room}
-use Rattle.object_core.specs.LinkTable.{MachRelocation, MachTableSection}
-use Rattle.image_read.specs.MachImage.{MachSectionData}
+use Rattle.object_core.specs.LinkTable.{MachRelocation, MachTableSection, MachTable}
+use Rattle.image_read.specs.MachImage.{MachSectionData, MachImageData, MachReads}
 use Rattle.object_macho.specs.Layout.{field_width, record_for, records_for}
+use Rattle.object_macho.specs.Fitting.{FitsMach}
+use Rattle.object_macho.specs.MachHolds.{MachHolds}
 use Rattle.object_macho.specs.Addends.{addend_read}
 
 -- the number of the record of relocation m among those of its section: the last of what is written up to it
@@ -35,3 +38,9 @@ pub record ShowsRelocation (cputype : ℕ) (s : MachTableSection) (shown : MachS
 -- where a section is read as it is written
 abbrev pub ShowsRelocations : ℕ → MachTableSection → MachSectionData → Type 0
 ShowsRelocations cputype s shown = (m : ℕ) (r : MachRelocation) → slice_get s.relocations m ≡ Some r → ShowsRelocation cputype s shown m r
+
+-- in the image as which a file of a table is read, each section that keeps its addends shows its relocations
+abbrev pub AddendsAreReadBack : Type 0
+AddendsAreReadBack =
+    (t : MachTable) (b : List ℕ) (image : MachImageData) → FitsMach t → All (λ x. x < 256) b → MachHolds b t → MachReads b image
+    → (k : ℕ) (s : MachTableSection) (shown : MachSectionData) → slice_get t.sections k ≡ Some s → slice_get image.sections k ≡ Some shown → KeepsAddends t.cputype s → ShowsRelocations t.cputype s shown

@@ -2,6 +2,7 @@
 
 use crate::build_tests::{NONE, words};
 use crate::files::is_file;
+use crate::limit_tests::data_objects;
 use crate::mach_part_files::{AARCH64_FILE, CALL_FILE, EMPTY_FILE, VERSIONED_FILE, X86_64_FILE};
 use byte_core::MemHost;
 use objtool_run::run;
@@ -166,5 +167,31 @@ fn what_mach_o_alone_refuses_is_built_for_elf(rt: HostRuntime) -> Result<(), Fai
         let (status, _) = built(alloc, &text)?;
         assert_eq!(rt; status, 0, "{commands}");
     }
+    Ok(())
+}
+
+/// A Mach-O part of so many bytes of zeros, which its file doesn't have.
+fn zeros(alloc: Global, size: u64) -> Result<String, AllocError> {
+    let commands = format!(in alloc;
+        "{{\"op\":\"declare_data\",\"name\":\"d\",\"linkage\":\"Local\"}},{{\"op\":\"define_data\",\"id\":0,\"zeros\":{size}}}"
+    )?;
+    part_for(alloc, "x86_64", "macho", &commands)
+}
+
+#[test]
+fn a_part_that_reaches_a_limit_of_mach_o_names_it(rt: HostRuntime) -> Result<(), Fail> {
+    let alloc = rt.alloc();
+    let sections = data_objects(alloc, "macho", 256, "__DATA,__own")?;
+    let (status, errors) = built(alloc, &sections)?;
+    assert_eq!(rt; status, 1);
+    assert!(rt; errors.as_slice() == b"part 0 end: too many sections: 256\n".as_slice());
+    // Contents count with their alignment, 1 byte here.
+    let most = zeros(alloc, 2_147_483_646)?;
+    let (status, _) = built(alloc, &most)?;
+    assert_eq!(rt; status, 0);
+    let more = zeros(alloc, 2_147_483_647)?;
+    let (status, errors) = built(alloc, &more)?;
+    assert_eq!(rt; status, 1);
+    assert!(rt; errors.as_slice() == b"part 0 end: too large contents: 2147483648\n".as_slice());
     Ok(())
 }

@@ -1,6 +1,6 @@
 use Rattle.std.proofs.Common.{◌≡◌, ◌+◌, ◌++◌, take, drop, length, map}
 use Rattle.std.specs.Prelude.{flat_map, sum_by}
-use Rattle.object_elf.specs.Layout.{with_zero}
+use Rattle.byte_core.specs.Strings.{with_zero}
 use Rattle.object_elf.specs.Writing.{own_name, own_name_size}
 use Rattle.object_elf.proofs.strings.place_own_names.Given as goal
 

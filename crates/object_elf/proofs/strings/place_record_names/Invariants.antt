@@ -1,6 +1,6 @@
 use Rattle.std.proofs.Common.{◌≡◌, ◌+◌, ◌++◌, take, drop, length, map}
 use Rattle.std.specs.Prelude.{filter, flat_map, sum_by}
-use Rattle.object_elf.specs.Layout.{with_zero}
+use Rattle.byte_core.specs.Strings.{with_zero}
 use Rattle.object_elf.specs.Writing.{record_name, record_name_size, has_relocations}
 use Rattle.object_elf.proofs.strings.place_record_names.Given as goal
 

@@ -1,6 +1,6 @@
 use Rattle.std.proofs.Common.{ap, ◌∙◌, Err}
 use Rattle.std.proofs.lemmas.Result.{err_from_is_err_and}
-use Rattle.object_macho.proofs.Judging.{judged_err, judged_memory, judged_ok}
+use Rattle.object_core.proofs.Judged.{judged_err, judged_memory, judged_ok}
 use Rattle.object_macho.proofs.emit.emit_macho.Goals as goal
 
 pub returns-in_err-plan-clause-cause : goal.returns-in_err-plan-clause-cause

@@ -1,7 +1,8 @@
 use Rattle.std.proofs.Common.{ap, ◌∙◌, Err}
 use Rattle.std.proofs.lemmas.Result.{err_from_is_err_and}
 use Rattle.object_macho.specs.PlainCounts.{plain_counts}
-use Rattle.object_macho.proofs.Judging.{within_limits, judged_err, judged_memory, judged_ok, judged_as}
+use Rattle.object_core.proofs.Judged.{judged_err, judged_memory, judged_ok}
+use Rattle.object_macho.proofs.Judging.{within_limits, judged_as}
 use Rattle.object_macho.proofs.Counting.{counts_are}
 use Rattle.object_macho.proofs.plan.macho_plan.Goals as goal
 

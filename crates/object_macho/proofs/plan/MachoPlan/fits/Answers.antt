@@ -3,7 +3,8 @@ use Rattle.std.specs.Prelude.{is_ok}
 use Rattle.object_macho.proofs.Counting.{counts_are}
 use Rattle.object_macho.proofs.Comparing.{not_chosen}
 use Rattle.object_macho.proofs.Filling.{numbers_of_plan}
-use Rattle.object_macho.proofs.Judging.{within_limits, ok_cause}
+use Rattle.object_core.proofs.Judged.{ok_cause}
+use Rattle.object_macho.proofs.Judging.{within_limits}
 use Rattle.object_macho.proofs.Planning.{plan_is}
 use Rattle.object_macho.specs.PlainCounts.{plain_counts}
 use Rattle.object_macho.specs.Limits.{mach_limit_cause}

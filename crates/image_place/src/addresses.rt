@@ -1,0 +1,85 @@
+//! Address rows, found by image and symbol.
+
+ghost use Rattle.std.specs.Prelude.{◌≡◌, ◌+◌, ◌*◌, ◌^◌, IfOk, OnOk};
+ghost use Rattle.image_place.specs.Placed.{row_for, given};
+ghost use Rattle.image_place.specs.Finding.{FindsRows, NotesRow, row_key};
+
+use crate::rows::DefAddress;
+use std::alloc::{AllocError, Global};
+use std::collections::BTreeMap;
+use std::marker::Model;
+
+/// Address rows. Of several for a symbol the first counts. A contract sees them as a list.
+#[derive(Drop)]
+pub struct Addresses<'a> {
+    rows: &'a [DefAddress],
+    first: BTreeMap<u128, DefAddress>,
+}
+
+impl<'a> Model for Addresses<'a> {
+    ghost use Rattle.std.specs.Prelude.{List};
+    ghost use Rattle.image_place.specs.Placed.{AddressRow};
+    ghost use Rattle.image_place.specs.Finding.{FindsRows};
+
+    ghost Value = { List AddressRow };
+
+    ghost view = { λ addresses. addresses.rows.now };
+
+    ghost invariant = { λ addresses. FindsRows addresses.first addresses.rows.now };
+}
+
+impl<'a> Addresses<'a> {
+    /// These rows.
+    pub(crate) fn new(alloc: Global, rows: &'a [DefAddress]) -> Result<Addresses<'a>, AllocError>
+        ensures { IfOk result (λ addresses. addresses ≡ rows.now) }
+    {
+        let first = first_rows(alloc, rows)?;
+        Ok(Addresses { rows, first })
+    }
+
+    /// The first row of a symbol of an image.
+    pub(crate) fn row(&self, image: usize, symbol: u32) -> Option<DefAddress>
+        ensures { result ≡ row_for self.now image symbol }
+    {
+        self.first.get(&key_of(image, symbol)).copied()
+    }
+
+    /// The address that is given for a symbol of an image, 0 where none is.
+    pub(crate) fn given(&self, image: usize, symbol: u32) -> u64
+        ensures { result ≡ given self.now image symbol }
+    {
+        match self.row(image, symbol) {
+            Some(row) => row.address,
+            None => 0,
+        }
+    }
+}
+
+fn first_rows(alloc: Global, rows: &[DefAddress]) -> Result<BTreeMap<u128, DefAddress>, AllocError>
+    ensures { IfOk result (λ first. FindsRows first rows.now) }
+{
+    let mut first = BTreeMap::new(alloc);
+    for row in rows {
+        note(&mut first, *row)?;
+    }
+    Ok(first)
+}
+
+// Notes a row, unless there is one of its symbol.
+fn note(first: &mut BTreeMap<u128, DefAddress>, row: DefAddress) -> Result<(), AllocError>
+    ensures { OnOk result (NotesRow first.old first.new row) }
+{
+    let key = key_of(row.image, row.symbol);
+    if first.contains_key(&key) {
+        return Ok(());
+    }
+    first.insert(key, row)?;
+    Ok(())
+}
+
+// A number for a symbol of an image.
+fn key_of(image: usize, symbol: u32) -> u128
+    ensures { result ≡ row_key image symbol }
+{
+    u128::from(image as u64) * 4_294_967_296 + u128::from(symbol)
+}

@@ -1,0 +1,162 @@
+//! The refusals of relocations.
+
+ghost use Rattle.std.specs.Prelude.{◌≡◌, ◌+◌, ◌<◌, ◌^◌, ◌&&◌, ◌≤◌, map, nat_le, Some};
+ghost use Rattle.std.specs.List.{list_any};
+ghost use Rattle.image_place.specs.Fixups.{fix_width};
+ghost use Rattle.image_place.specs.Leading.{fault_by, holds_it, is_far};
+ghost use Rattle.image_place.specs.Naming.{address_found};
+ghost use Rattle.image_place.specs.Placed.{first_fault, given, holds_field};
+ghost use Rattle.image_place.specs.RangeRows.{definition_seen};
+
+use crate::fault::PlaceFault;
+use crate::kind::FixKind;
+use crate::leading::{Led, Scene, led_to};
+use crate::ranges::Definition;
+use crate::values::value_of;
+use crate::view::{ViewReloc, ViewSection};
+
+/// The first refusal of the relocations of a section, which has number `k`.
+pub fn section_fault(scene: Scene<'_>, k: usize, section: &ViewSection<'_>) -> Option<PlaceFault>
+    ensures { result ≡ first_fault (map (fault_by (address_found scene.entry.exports.now scene.entry.outsides.now) (given scene.entry.addresses.now scene.entry.image) scene.entry.image scene.entry.view.now (map definition_seen scene.entry.definitions.now) k (section.now).start) (section.now).relocations) }
+{
+    for relocation in section.relocations() {
+        if let Some(fault) = fault_of(scene, k, section.start(), *relocation) {
+            return Some(fault);
+        }
+    }
+    None
+}
+
+fn fault_of(scene: Scene<'_>, k: usize, start: u64, r: ViewReloc) -> Option<PlaceFault>
+    ensures { result ≡ fault_by (address_found scene.entry.exports.now scene.entry.outsides.now) (given scene.entry.addresses.now scene.entry.image) scene.entry.image scene.entry.view.now (map definition_seen scene.entry.definitions.now) k start r }
+{
+    let image = scene.image;
+    let symbol = r.symbol;
+    let Some(kind) = r.kind else {
+        return Some(PlaceFault::OtherKind {
+            image,
+            number: r.number,
+        });
+    };
+    if !is_held(scene.definitions, k, start, r, kind) {
+        return Some(PlaceFault::NoAddress { image, symbol });
+    }
+    match led_to(scene, symbol) {
+        Led::Loose => Some(PlaceFault::LooseLabel { image, symbol }),
+        Led::Unbound => Some(PlaceFault::NoAddress { image, symbol }),
+        Led::At(address) => {
+            if !leads_too_far(scene.definitions, k, start, r, kind, address) {
+                return None;
+            }
+            Some(PlaceFault::DoesNotFit {
+                image,
+                offset: r.offset,
+            })
+        }
+    }
+}
+
+// Whether the range of some definition holds the whole field.
+fn is_held(
+    definitions: &[Definition<'_>],
+    k: usize,
+    start: u64,
+    r: ViewReloc,
+    kind: FixKind,
+) -> bool
+    ensures { result ≡ list_any (holds_it k start r kind) (map definition_seen definitions.now) }
+{
+    for definition in definitions {
+        if holds_field(definition, k, start, r, kind) {
+            return true;
+        }
+    }
+    false
+}
+
+// Whether the value doesn't fit in some definition whose range holds the field.
+fn leads_too_far(
+    definitions: &[Definition<'_>],
+    k: usize,
+    start: u64,
+    r: ViewReloc,
+    kind: FixKind,
+    address: u128,
+) -> bool
+    requires { address < 2 ^ 66 }
+    ensures { result ≡ list_any (λ d. holds_it k start r kind d && is_far start r kind address d) (map definition_seen definitions.now) }
+{
+    for definition in definitions {
+        if holds_field(definition, k, start, r, kind)
+            && is_far(definition, start, r, kind, address)
+        {
+            return true;
+        }
+    }
+    false
+}
+
+// Whether the range of a definition holds the whole field of a relocation of section `k`, which begins at `start`.
+fn holds_field(
+    definition: &Definition<'_>,
+    k: usize,
+    start: u64,
+    r: ViewReloc,
+    kind: FixKind,
+) -> bool
+    ensures { result ≡ holds_it k start r kind (definition_seen definition.now) }
+{
+    definition.section == k && holds_range(definition, start, r, kind)
+}
+
+/// Whether the range of a definition holds the whole field of a relocation of its section, which begins at `start`.
+pub fn holds_range(definition: &Definition<'_>, start: u64, r: ViewReloc, kind: FixKind) -> bool
+    ensures { result ≡ holds_field start r (Some kind) (definition_seen definition.now) }
+{
+    let width = width_of(kind) as u64;
+    lies_in(
+        definition.symbol.address,
+        definition.size,
+        start,
+        r.offset,
+        width,
+    )
+}
+
+// Whether a field behind `start` lies in the range of so many bytes from `low` on.
+fn lies_in(low: u64, size: u64, start: u64, offset: u64, width: u64) -> bool
+    requires { width ≤ 8 }
+    ensures { result ≡ (nat_le low (start + offset) && nat_le (start + offset + width) (low + size)) }
+{
+    let at = u128::from(start) + u128::from(offset);
+    let end = u128::from(low) + u128::from(size);
+    u128::from(low) <= at && at + u128::from(width) <= end
+}
+
+/// The bytes of a field.
+pub fn width_of(kind: FixKind) -> usize
+    ensures width { result ≡ fix_width kind }
+    ensures few { result ≤ 8 }
+{
+    match kind {
+        FixKind::Absolute8 => 8,
+        FixKind::Absolute4 => 4,
+        FixKind::Relative4 => 4,
+    }
+}
+
+fn is_far(
+    definition: &Definition<'_>,
+    start: u64,
+    r: ViewReloc,
+    kind: FixKind,
+    address: u128,
+) -> bool
+    requires { address < 2 ^ 66 }
+    ensures { result ≡ is_far start r kind address (definition_seen definition.now) }
+{
+    let at = u128::from(start) + u128::from(r.offset);
+    let offset = at.saturating_sub(u128::from(definition.symbol.address));
+    let place = u128::from(definition.address) + offset;
+    value_of(kind, address, r.addend, place).is_none()
+}
