@@ -1,9 +1,13 @@
 //! A host in memory, for tests and for programs without streams.
 
-ghost use Rattle.std.specs.Prelude.{◌≡◌, [], Some, IfOk};
+ghost use Rattle.std.specs.Prelude.{◌≡◌, ◌<◌, ◌↔◌, ◌⊎◌, [], length, Some, None, IfOk, IfSome, IsTrue, Contains};
+ghost use Rattle.byte_core.specs.Outside.{file_at};
+ghost use Rattle.byte_core.specs.NamedFiles.{named_files};
 ghost use Rattle.byte_core.specs.MemoryHost.{MemHostData};
 
-use crate::{Failed, Host};
+use crate::copying::copy_at;
+use crate::named_file::bytes_of;
+use crate::{Failed, Host, NamedFile};
 use std::alloc::{AllocError, Global};
 use std::marker::Model;
 
@@ -13,11 +17,24 @@ pub struct FailingCalls<'a> {
     pub reads: &'a [u64],
     pub writes: &'a [u64],
     pub err_writes: &'a [u64],
+    pub opens: &'a [u64],
+    pub file_reads: &'a [u64],
 }
 
-/// A host whose input and outputs are known. It fails at the calls whose numbers it was given, and
-/// where a write of some bytes finds no room. All room is taken when it is made: no call takes
-/// memory.
+impl FailingCalls<'_> {
+    /// No call fails.
+    pub const NONE: FailingCalls<'static> = FailingCalls {
+        reads: &[],
+        writes: &[],
+        err_writes: &[],
+        opens: &[],
+        file_reads: &[],
+    };
+}
+
+/// A host whose input, outputs and files are known. It fails at the calls whose numbers it was given,
+/// where a write of some bytes finds no room, and where a path is opened that it doesn't hold. All
+/// room is taken when it is made: no call takes memory.
 #[derive(Drop)]
 pub struct MemHost<'a> {
     input: &'a [u8],
@@ -26,9 +43,15 @@ pub struct MemHost<'a> {
     reads: u64,
     writes: u64,
     err_writes: u64,
+    opens: u64,
+    file_reads: u64,
     read_faults: u64,
     write_faults: u64,
     err_faults: u64,
+    open_faults: u64,
+    file_faults: u64,
+    files: &'a [NamedFile<'a>],
+    file: Option<&'a [u8]>,
     output: Vec<u8>,
     errors: Vec<u8>,
     room: usize,
@@ -47,21 +70,28 @@ impl<'a> Model for MemHost<'a> {
 }
 
 impl<'a> MemHost<'a> {
-    /// A host with this input, and room for so many bytes of output and fault text together.
+    /// A host with this input, these files, of which the first of a path counts, and room for so many
+    /// bytes of output and fault text together.
     pub fn new(
         alloc: Global,
         input: &'a [u8],
+        files: &'a [NamedFile<'a>],
         fails: FailingCalls<'a>,
         room: usize,
     ) -> Result<MemHost<'a>, AllocError>
         ensures { IfOk result (λ host. host ≡ record {
-          outside = record { input = Some input.now; taken = 0; read_faults = 0; output = Some []; write_faults = 0; errors = Some []; err_faults = 0 };
+          outside = record { input = Some input.now; taken = 0; read_faults = 0; output = Some []; write_faults = 0; errors = Some []; err_faults = 0;
+            files = Some (named_files files.now); open_faults = 0; file = None; file_faults = 0 };
           failing_reads = fails.entry.reads.now;
           failing_writes = fails.entry.writes.now;
           failing_err_writes = fails.entry.err_writes.now;
+          failing_opens = fails.entry.opens.now;
+          failing_file_reads = fails.entry.file_reads.now;
           reads = 0;
           writes = 0;
           err_writes = 0;
+          opens = 0;
+          file_reads = 0;
           room = room;
         }) }
     {
@@ -74,13 +104,26 @@ impl<'a> MemHost<'a> {
             reads: 0,
             writes: 0,
             err_writes: 0,
+            opens: 0,
+            file_reads: 0,
             read_faults: 0,
             write_faults: 0,
             err_faults: 0,
+            open_faults: 0,
+            file_faults: 0,
+            files,
+            file: None,
             output,
             errors,
             room,
         })
+    }
+
+    /// How many bytes the outputs still have room for.
+    fn room_left(&self) -> usize
+        ensures { result ≡ self.now.room }
+    {
+        self.room - (self.output.len() + self.errors.len())
     }
 
     /// All that the output took.
@@ -98,11 +141,35 @@ impl<'a> MemHost<'a> {
     }
 }
 
+/// Whether the write of a number is one that fails, or finds no room for any of its bytes.
+fn is_refused(failing: &[u64], call: u64, bytes: &[u8], room: usize) -> bool
+    ensures { IsTrue result ↔ (Contains failing.now call ⊎ ((0 < length bytes.now) × (room ≡ 0))) }
+{
+    failing.contains(&call) || (room == 0 && !bytes.is_empty())
+}
+
+/// The bytes of the first file of a path, where the opening of that number isn't one that fails.
+fn opened<'a>(
+    files: &[NamedFile<'a>],
+    failing: &[u64],
+    call: u64,
+    path: &str,
+) -> Option<&'a [u8]>
+    ensures none { (result ≡ None) ↔ (Contains failing.now call ⊎ (file_at path.now (named_files files.now) ≡ None)) }
+    ensures some { IfSome result (λ bytes. file_at path.now (named_files files.now) ≡ Some bytes.now) }
+{
+    if failing.contains(&call) {
+        return None;
+    }
+    bytes_of(files, path)
+}
+
 impl Host for MemHost<'_> {
-    ghost use Rattle.std.specs.Prelude.{◌≡◌, ◌<◌, ◌≤◌, ◌↔◌, ◌⊎◌, min, length, take, IfOk, IfSome, OnErr, IsErr, Contains};
+    ghost use Rattle.std.specs.Prelude.{◌≡◌, ◌+◌, ◌-◌, ◌<◌, ◌≤◌, ◌↔◌, ◌⊎◌, min, length, take, None, IfOk, OnOk, IfSome, IsSome, OnErr, IsErr, Contains};
     ghost use Rattle.byte_core.specs.Count.{Rose};
-    ghost use Rattle.byte_core.specs.Outside.{Outside, TakesInput, KeepsInput, ChangesInput, ChangesOutput, ChangesErrors, Appends, IsAtEnd};
-    ghost use Rattle.byte_core.specs.MemoryHost.{MemHostData, after_read, after_failed_read, after_write, after_failed_write, after_err_write, after_failed_err_write};
+    ghost use Rattle.byte_core.specs.Outside.{Outside, TakesInput, KeepsInput, ChangesInput, ChangesOutput, ChangesErrors, ChangesFile, ReadsFile, Appends, IsAtEnd, IsFileOf, file_at};
+    ghost use Rattle.byte_core.specs.Number.{bytes_at};
+    ghost use Rattle.byte_core.specs.MemoryHost.{MemHostData, after_read, after_failed_read, after_write, after_failed_write, after_err_write, after_failed_err_write, after_open, after_failed_open, after_file_read, after_failed_file_read};
 
     ghost outside = { λ h. h.outside };
 
@@ -144,11 +211,11 @@ impl Host for MemHost<'_> {
         ensures ok { IfOk result (λ n. self.new ≡ after_write self.old buf.now n) }
         ensures err { OnErr result (self.new ≡ after_failed_write self.old) }
     {
+        let room = self.room_left();
         let call = self.writes;
         self.writes = self.writes.saturating_add(1);
-        let room = self.room - (self.output.len() + self.errors.len());
         let n = buf.len().min(room);
-        if self.fails.writes.contains(&call) || (n == 0 && !buf.is_empty()) {
+        if is_refused(self.fails.writes, call, buf, room) {
             self.write_faults = self.write_faults.saturating_add(1);
             return Err(Failed);
         }
@@ -170,11 +237,11 @@ impl Host for MemHost<'_> {
         ensures ok { IfOk result (λ n. self.new ≡ after_err_write self.old buf.now n) }
         ensures err { OnErr result (self.new ≡ after_failed_err_write self.old) }
     {
+        let room = self.room_left();
         let call = self.err_writes;
         self.err_writes = self.err_writes.saturating_add(1);
-        let room = self.room - (self.output.len() + self.errors.len());
         let n = buf.len().min(room);
-        if self.fails.err_writes.contains(&call) || (n == 0 && !buf.is_empty()) {
+        if is_refused(self.fails.err_writes, call, buf, room) {
             self.err_faults = self.err_faults.saturating_add(1);
             return Err(Failed);
         }
@@ -182,5 +249,53 @@ impl Host for MemHost<'_> {
             unreachable!()
         }
         Ok(n)
+    }
+
+    fn open_file(&mut self, path: &str) -> Result<u64, Failed>
+        ensures opened { IfOk result (λ n. IsFileOf self.old.outside.files path.now self.new.outside.file n) }
+        ensures closed { OnErr result (self.new.outside.file ≡ None) }
+        ensures failed { OnErr result (Rose self.old.outside.open_faults self.new.outside.open_faults) }
+        ensures others { ChangesFile self.old.outside self.new.outside }
+        ensures exact { IsErr result ↔ Contains self.old.failing_opens self.old.opens ⊎ IfSome self.old.outside.files (λ files. file_at path.now files ≡ None) }
+        ensures ok { OnOk result (IfSome self.old.outside.files (λ files. IfSome (file_at path.now files) (λ bytes. self.new ≡ after_open self.old bytes))) }
+        ensures err { OnErr result (self.new ≡ after_failed_open self.old) }
+    {
+        let call = self.opens;
+        self.opens = self.opens.saturating_add(1);
+        self.file = opened(self.files, self.fails.opens, call, path);
+        match self.file {
+            Some(bytes) => Ok(bytes.len() as u64),
+            None => {
+                self.open_faults = self.open_faults.saturating_add(1);
+                Err(Failed)
+            }
+        }
+    }
+
+    fn read_file(&mut self, buf: &mut [u8], offset: u64) -> Result<usize, Failed>
+        requires current { IsSome self.old.outside.file }
+        ensures count { IfOk result (λ n. n ≤ length buf.new) }
+        ensures bytes { IfOk result (λ n. IfSome self.old.outside.file
+            (λ file. IfSome file.bytes (λ bytes. take n buf.new ≡ bytes_at bytes offset n))) }
+        ensures inside { IfOk result (λ n. 0 < n → IfSome self.old.outside.file (λ file. offset + n ≤ file.length)) }
+        ensures some { IfOk result (λ n. 0 < length buf.new → IfSome self.old.outside.file (λ file. offset < file.length → 0 < n)) }
+        ensures room { length buf.new ≡ length buf.old }
+        ensures failed { OnErr result (Rose self.old.outside.file_faults self.new.outside.file_faults) }
+        ensures others { ReadsFile self.old.outside self.new.outside }
+        ensures exact { IsErr result ↔ Contains self.old.failing_file_reads self.old.file_reads }
+        ensures amount { IfOk result (λ n. IfSome self.old.outside.file (λ file. n ≡ min (length buf.new) (file.length - offset))) }
+        ensures ok { OnOk result (self.new ≡ after_file_read self.old) }
+        ensures err { OnErr result (self.new ≡ after_failed_file_read self.old) }
+    {
+        let Some(bytes) = self.file else {
+            unreachable!()
+        };
+        let call = self.file_reads;
+        self.file_reads = self.file_reads.saturating_add(1);
+        if self.fails.file_reads.contains(&call) {
+            self.file_faults = self.file_faults.saturating_add(1);
+            return Err(Failed);
+        }
+        Ok(copy_at(bytes, buf, offset))
     }
 }

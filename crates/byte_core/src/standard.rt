@@ -1,16 +1,18 @@
-//! The adapter over a reader and two writers of std, as the process's own streams. It is the trusted
-//! edge: what passes through the streams isn't known.
+//! The adapter over a reader, two writers and the files of std, as the process's own. It is the trusted
+//! edge: what passes through the streams and what the files hold isn't known.
 
 ghost use Rattle.std.specs.Prelude.{◌≡◌, None};
 
-use crate::{Failed, Host};
+use crate::{Failed, FileSource, Host, Source};
 use std::io::{Read, Write};
 use std::marker::Model;
+use std::rt::Files;
 
-/// A host over a reader and two writers. A read is handed on as it is; a write of nothing is a
-/// failure, as each error is, and each failure counts.
+/// A host over a reader, two writers and files. A read of the input is handed on as it is; a write of
+/// nothing is a failure, as a read of nothing inside a file and each error are, and each failure counts.
 #[derive(Drop)]
-pub struct StreamHost<I, O, E> {
+pub struct StreamHost<R: Files, I, O, E> {
+    files: R,
     input: I,
     output: O,
     errors: E,
@@ -18,10 +20,13 @@ pub struct StreamHost<I, O, E> {
     read_faults: u64,
     write_faults: u64,
     err_faults: u64,
+    open_faults: u64,
+    file: Option<FileSource<R::File>>,
+    file_faults: u64,
 }
 
-impl<I, O, E> Model for StreamHost<I, O, E> {
-    ghost use Rattle.std.specs.Prelude.{None};
+impl<R: Files, I, O, E> Model for StreamHost<R, I, O, E> {
+    ghost use Rattle.std.specs.Prelude.{None, option_map};
     ghost use Rattle.byte_core.specs.Outside.{Outside};
 
     ghost Value = { Outside };
@@ -34,15 +39,21 @@ impl<I, O, E> Model for StreamHost<I, O, E> {
       write_faults = h.write_faults;
       errors = None;
       err_faults = h.err_faults;
+      files = None;
+      open_faults = h.open_faults;
+      file = option_map (λ source. record { length = source.length; bytes = source.bytes }) h.file;
+      file_faults = h.file_faults;
     } };
 }
 
-impl<I, O, E> StreamHost<I, O, E> {
-    /// A host over these streams.
-    pub fn new(input: I, output: O, errors: E) -> Self
-        ensures { result ≡ record { input = None; taken = 0; read_faults = 0; output = None; write_faults = 0; errors = None; err_faults = 0 } }
+impl<R: Files, I, O, E> StreamHost<R, I, O, E> {
+    /// A host over these files and streams.
+    pub fn new(files: R, input: I, output: O, errors: E) -> Self
+        ensures { result ≡ record { input = None; taken = 0; read_faults = 0; output = None; write_faults = 0; errors = None; err_faults = 0;
+          files = None; open_faults = 0; file = None; file_faults = 0 } }
     {
         StreamHost {
+            files,
             input,
             output,
             errors,
@@ -50,11 +61,14 @@ impl<I, O, E> StreamHost<I, O, E> {
             read_faults: 0,
             write_faults: 0,
             err_faults: 0,
+            open_faults: 0,
+            file: None,
+            file_faults: 0,
         }
     }
 }
 
-impl<I: Read, O: Write, E: Write> Host for StreamHost<I, O, E> {
+impl<R: Files, I: Read, O: Write, E: Write> Host for StreamHost<R, I, O, E> {
     ghost use Rattle.byte_core.specs.Outside.{Outside};
 
     ghost outside = { λ h. h };
@@ -87,6 +101,34 @@ impl<I: Read, O: Write, E: Write> Host for StreamHost<I, O, E> {
             Ok(n) if n > 0 || buf.is_empty() => Ok(n),
             _ => {
                 self.err_faults = self.err_faults.saturating_add(1);
+                Err(Failed)
+            }
+        }
+    }
+
+    fn open_file(&mut self, path: &str) -> Result<u64, Failed> {
+        self.file = None;
+        match FileSource::open(&self.files, path) {
+            Ok(source) => {
+                let length = source.len();
+                self.file = Some(source);
+                Ok(length)
+            }
+            Err(_) => {
+                self.open_faults = self.open_faults.saturating_add(1);
+                Err(Failed)
+            }
+        }
+    }
+
+    fn read_file(&mut self, buf: &mut [u8], offset: u64) -> Result<usize, Failed> {
+        let Some(source) = &mut self.file else {
+            unreachable!()
+        };
+        match source.read_at(buf, offset) {
+            Ok(n) => Ok(n),
+            Err(_) => {
+                self.file_faults = self.file_faults.saturating_add(1);
                 Err(Failed)
             }
         }
