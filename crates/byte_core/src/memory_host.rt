@@ -80,8 +80,19 @@ impl<'a> MemHost<'a> {
         room: usize,
     ) -> Result<MemHost<'a>, AllocError>
         ensures { IfOk result (λ host. host ≡ record {
-          outside = record { input = Some input.now; taken = 0; read_faults = 0; output = Some []; write_faults = 0; errors = Some []; err_faults = 0;
-            files = Some (named_files files.now); open_faults = 0; file = None; file_faults = 0 };
+          outside = record {
+            input = Some input.now;
+            taken = 0;
+            read_faults = 0;
+            output = Some [];
+            write_faults = 0;
+            errors = Some [];
+            err_faults = 0;
+            files = Some (named_files files.now);
+            open_faults = 0;
+            file = None;
+            file_faults = 0;
+          };
           failing_reads = fails.entry.reads.now;
           failing_writes = fails.entry.writes.now;
           failing_err_writes = fails.entry.err_writes.now;
@@ -149,12 +160,7 @@ fn is_refused(failing: &[u64], call: u64, bytes: &[u8], room: usize) -> bool
 }
 
 /// The bytes of the first file of a path, where the opening of that number isn't one that fails.
-fn opened<'a>(
-    files: &[NamedFile<'a>],
-    failing: &[u64],
-    call: u64,
-    path: &str,
-) -> Option<&'a [u8]>
+fn opened<'a>(files: &[NamedFile<'a>], failing: &[u64], call: u64, path: &str) -> Option<&'a [u8]>
     ensures none { (result ≡ None) ↔ (Contains failing.now call ⊎ (file_at path.now (named_files files.now) ≡ None)) }
     ensures some { IfSome result (λ bytes. file_at path.now (named_files files.now) ≡ Some bytes.now) }
 {

@@ -49,8 +49,19 @@ impl<R: Files, I, O, E> Model for StreamHost<R, I, O, E> {
 impl<R: Files, I, O, E> StreamHost<R, I, O, E> {
     /// A host over these files and streams.
     pub fn new(files: R, input: I, output: O, errors: E) -> Self
-        ensures { result ≡ record { input = None; taken = 0; read_faults = 0; output = None; write_faults = 0; errors = None; err_faults = 0;
-          files = None; open_faults = 0; file = None; file_faults = 0 } }
+        ensures { result ≡ record {
+          input = None;
+          taken = 0;
+          read_faults = 0;
+          output = None;
+          write_faults = 0;
+          errors = None;
+          err_faults = 0;
+          files = None;
+          open_faults = 0;
+          file = None;
+          file_faults = 0;
+        } }
     {
         StreamHost {
             files,

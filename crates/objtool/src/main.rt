@@ -1,4 +1,4 @@
-//! The program `objtool`: [`objtool_run::run`] over the process's own words and streams.
+//! The program `objtool`: [`objtool_run::run`] over the process's own words, streams and files.
 #![tactic(auto)]
 
 use byte_core::StreamHost;
@@ -16,6 +16,6 @@ fn main(rt: HostRuntime) -> ExitCode {
             }
         }
     }
-    let mut host = StreamHost::new(rt.stdin(), rt.stdout(), rt.stderr());
+    let mut host = StreamHost::new(rt, rt.stdin(), rt.stdout(), rt.stderr());
     ExitCode::from(run(rt.alloc(), &words, &mut host))
 }

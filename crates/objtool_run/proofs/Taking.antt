@@ -2,7 +2,7 @@
 use Rattle.std.proofs.Common.{◌≡◌, ℕ, ◌+◌, ◌-◌, ◌<◌, List, [], ◌++◌, length, take, drop, Option, Some, None, option_map, IfSome, refl, ap, sym, arith, length-append, append-nil, append_assoc}
 use Rattle.std.proofs.Math.Seq.{take-add}
 use Rattle.std.proofs.lemmas.List.{take_rest}
-use Rattle.byte_core.specs.Outside.{Outside, ChangesInput, ChangesOutput, ChangesErrors, TakesInput, Appends, IsAtEnd}
+use Rattle.byte_core.specs.Outside.{Outside, KeepsFiles, ChangesInput, ChangesOutput, ChangesErrors, TakesInput, Appends, IsAtEnd}
 
 input_nothing : (i : Option (List ℕ)) → i ≡ option_map (λ rest. [] ++ rest) i
 input_nothing None = refl
@@ -23,14 +23,17 @@ taken_again first mid now a b p q = record {
   taken = omega (arith, length-append a b, p.taken, q.taken);
 }
 
+keeps_files_again : (first mid now : Outside) → KeepsFiles first mid → KeepsFiles mid now → KeepsFiles first now
+keeps_files_again first mid now p q = record { files = cc; open_faults = cc; file = cc; file_faults = cc }
+
 pub changes_input_again : (first mid now : Outside) → ChangesInput first mid → ChangesInput mid now → ChangesInput first now
-changes_input_again first mid now p q = record { output = cc; write_faults = cc; errors = cc; err_faults = cc; rises = omega arith }
+changes_input_again first mid now p q = record { output = cc; write_faults = cc; errors = cc; err_faults = cc; files = keeps_files_again first mid now p.files q.files; rises = omega arith }
 
 pub changes_output_again : (first mid now : Outside) → ChangesOutput first mid → ChangesOutput mid now → ChangesOutput first now
-changes_output_again first mid now p q = record { input = cc; taken = cc; read_faults = cc; errors = cc; err_faults = cc; rises = omega arith }
+changes_output_again first mid now p q = record { input = cc; taken = cc; read_faults = cc; errors = cc; err_faults = cc; files = keeps_files_again first mid now p.files q.files; rises = omega arith }
 
 pub changes_errors_again : (first mid now : Outside) → ChangesErrors first mid → ChangesErrors mid now → ChangesErrors first now
-changes_errors_again first mid now p q = record { input = cc; taken = cc; read_faults = cc; output = cc; write_faults = cc; rises = omega arith }
+changes_errors_again first mid now p q = record { input = cc; taken = cc; read_faults = cc; output = cc; write_faults = cc; files = keeps_files_again first mid now p.files q.files; rises = omega arith }
 
 -- nothing was written
 pub appends_nothing : (x : Option (List ℕ)) → Appends x x []

@@ -6,11 +6,7 @@ use objtool_run::run;
 use std::alloc::{AllocError, Global};
 use std::test::Fail;
 
-pub(crate) const NONE: FailingCalls<'static> = FailingCalls {
-    reads: &[],
-    writes: &[],
-    err_writes: &[],
-};
+pub(crate) const NONE: FailingCalls<'static> = FailingCalls::NONE;
 
 /// One exported function `main` of one byte.
 pub(crate) const MAIN: &str =
@@ -36,7 +32,7 @@ pub(crate) fn part_of(alloc: Global, commands: &str) -> Result<String, AllocErro
 fn an_exported_main_has_592_bytes(rt: HostRuntime) -> Result<(), Fail> {
     let alloc = rt.alloc();
     let build = words(alloc, &["build"])?;
-    let mut host = MemHost::new(alloc, MAIN.as_bytes(), NONE, 2000)?;
+    let mut host = MemHost::new(alloc, MAIN.as_bytes(), &[], NONE, 2000)?;
     assert_eq!(rt; run(alloc, &build, &mut host), 0);
     assert_eq!(rt; host.output().len(), 2 * 592 + 1);
     assert!(rt; is_file(host.output(), MAIN_FILE));
@@ -49,7 +45,7 @@ fn an_empty_part_has_480_bytes(rt: HostRuntime) -> Result<(), Fail> {
     let alloc = rt.alloc();
     let build = words(alloc, &["build"])?;
     let text = part_of(alloc, "")?;
-    let mut host = MemHost::new(alloc, text.as_bytes(), NONE, 2000)?;
+    let mut host = MemHost::new(alloc, text.as_bytes(), &[], NONE, 2000)?;
     assert_eq!(rt; run(alloc, &build, &mut host), 0);
     assert_eq!(rt; host.output().len(), 2 * 480 + 1);
     assert!(rt; is_file(host.output(), EMPTY_FILE));
@@ -62,7 +58,7 @@ fn three_functions_stand_in_order_of_their_definitions(rt: HostRuntime) -> Resul
     let build = words(alloc, &["build"])?;
     let text =
         "[{\"name\":\"three.o\",\"arch\":\"x86_64\",\"format\":\"elf\",\"commands\":[{\"op\":\"declare_function\",\"name\":\"helper\",\"linkage\":\"Local\"},{\"op\":\"declare_function\",\"name\":\"ext\",\"linkage\":\"Import\"},{\"op\":\"declare_function\",\"name\":\"first\",\"linkage\":\"Export\"},{\"op\":\"declare_function\",\"name\":\"second\",\"linkage\":\"Export\"},{\"op\":\"define_function\",\"id\":3,\"bytes\":\"31c0c3\"},{\"op\":\"define_function\",\"id\":0,\"bytes\":\"c3\"},{\"op\":\"define_function\",\"id\":2,\"bytes\":\"b82a000000c3\"}]}]";
-    let mut host = MemHost::new(alloc, text.as_bytes(), NONE, 2000)?;
+    let mut host = MemHost::new(alloc, text.as_bytes(), &[], NONE, 2000)?;
     assert_eq!(rt; run(alloc, &build, &mut host), 0);
     assert!(rt; is_file(host.output(), THREE_FILE));
     Ok(())
@@ -76,7 +72,7 @@ fn the_greatest_linkage_of_a_name_counts(rt: HostRuntime) -> Result<(), Fail> {
         alloc,
         "{\"op\":\"declare_function\",\"name\":\"w\",\"linkage\":\"Import\"},{\"op\":\"declare_function\",\"name\":\"w\",\"linkage\":\"Hidden\"},{\"op\":\"declare_function\",\"name\":\"w\",\"linkage\":\"Local\"},{\"op\":\"declare_function\",\"name\":\"w\",\"linkage\":\"Preemptible\"},{\"op\":\"declare_function\",\"name\":\"w\",\"linkage\":\"Hidden\"}",
     )?;
-    let mut host = MemHost::new(alloc, text.as_bytes(), NONE, 2000)?;
+    let mut host = MemHost::new(alloc, text.as_bytes(), &[], NONE, 2000)?;
     assert_eq!(rt; run(alloc, &build, &mut host), 0);
     assert_eq!(rt; host.output().len(), 2 * 512 + 1);
     assert!(rt; is_file(host.output(), WEAK_FILE));
@@ -91,7 +87,7 @@ fn a_function_without_a_name_has_a_local_symbol(rt: HostRuntime) -> Result<(), F
         alloc,
         "{\"op\":\"declare_anonymous_function\",\"signature\":{}},{\"op\":\"define_function\",\"id\":0,\"bytes\":\"C3\"}",
     )?;
-    let mut host = MemHost::new(alloc, text.as_bytes(), NONE, 2000)?;
+    let mut host = MemHost::new(alloc, text.as_bytes(), &[], NONE, 2000)?;
     assert_eq!(rt; run(alloc, &build, &mut host), 0);
     assert!(rt; is_file(host.output(), ANONYMOUS_FILE));
     Ok(())
@@ -141,7 +137,7 @@ fn a_refused_part_has_status_1_and_names_its_place(rt: HostRuntime) -> Result<()
     ];
     for (commands, want) in cases {
         let text = part_of(alloc, commands)?;
-        let mut host = MemHost::new(alloc, text.as_bytes(), NONE, 2000)?;
+        let mut host = MemHost::new(alloc, text.as_bytes(), &[], NONE, 2000)?;
         assert_eq!(rt; run(alloc, &build, &mut host), 1, "{want}");
         assert!(rt; host.errors() == want.as_bytes(), "{want}");
         assert_eq!(rt; host.output().len(), 0);
@@ -157,7 +153,7 @@ fn a_preemptible_function_needs_no_definition(rt: HostRuntime) -> Result<(), Fai
         alloc,
         "{\"op\":\"declare_function\",\"name\":\"p\",\"linkage\":\"Preemptible\"}",
     )?;
-    let mut host = MemHost::new(alloc, text.as_bytes(), NONE, 2000)?;
+    let mut host = MemHost::new(alloc, text.as_bytes(), &[], NONE, 2000)?;
     assert_eq!(rt; run(alloc, &build, &mut host), 0);
     assert_eq!(rt; host.errors().len(), 0);
     Ok(())
@@ -168,7 +164,7 @@ fn a_zero_byte_of_the_files_name_has_its_place(rt: HostRuntime) -> Result<(), Fa
     let alloc = rt.alloc();
     let build = words(alloc, &["build"])?;
     let text = "[{\"name\":\"a.\\u0000o\",\"arch\":\"x86_64\",\"format\":\"elf\",\"commands\":[]}]";
-    let mut host = MemHost::new(alloc, text.as_bytes(), NONE, 2000)?;
+    let mut host = MemHost::new(alloc, text.as_bytes(), &[], NONE, 2000)?;
     assert_eq!(rt; run(alloc, &build, &mut host), 1);
     assert!(rt; host.errors() == b"part 0 start: Backend error: zero byte at 2\n".as_slice());
     Ok(())
@@ -222,7 +218,7 @@ fn bad_inputs_have_their_status(rt: HostRuntime) -> Result<(), Fail> {
         "[{\"image\":\"00\",\"name\":\"a.o\"}]",
     ];
     for text in cases {
-        let mut host = MemHost::new(alloc, text.as_bytes(), NONE, 2000)?;
+        let mut host = MemHost::new(alloc, text.as_bytes(), &[], NONE, 2000)?;
         assert_eq!(rt; run(alloc, &build, &mut host), 6, "{text}");
         assert_eq!(rt; host.output().len(), 0, "{text}");
         assert!(rt;
@@ -230,10 +226,10 @@ fn bad_inputs_have_their_status(rt: HostRuntime) -> Result<(), Fail> {
             "{text}"
         );
     }
-    let mut host = MemHost::new(alloc, b"\xff[]", NONE, 2000)?;
+    let mut host = MemHost::new(alloc, b"\xff[]", &[], NONE, 2000)?;
     assert_eq!(rt; run(alloc, &build, &mut host), 6);
     for other in [words(alloc, &[])?, words(alloc, &["build", "x"])?] {
-        let mut host = MemHost::new(alloc, MAIN.as_bytes(), NONE, 2000)?;
+        let mut host = MemHost::new(alloc, MAIN.as_bytes(), &[], NONE, 2000)?;
         assert_eq!(rt; run(alloc, &other, &mut host), 2);
         assert!(rt; host.errors() == b"words not understood\n".as_slice());
     }
@@ -255,7 +251,7 @@ fn parts_that_are_not_built_so_far_have_a_status_of_their_own(rt: HostRuntime) -
         words(alloc, &["build", "--raw"])?,
     ] {
         for text in cases {
-            let mut host = MemHost::new(alloc, text.as_bytes(), NONE, 2000)?;
+            let mut host = MemHost::new(alloc, text.as_bytes(), &[], NONE, 2000)?;
             assert_eq!(rt; run(alloc, &line, &mut host), 8, "{text}");
             assert_eq!(rt; host.output().len(), 0, "{text}");
             assert!(rt; host.errors() == b"not yet\n".as_slice(), "{text}");
@@ -269,11 +265,11 @@ fn an_input_past_the_limit_is_too_long(rt: HostRuntime) -> Result<(), Fail> {
     let alloc = rt.alloc();
     let build = words(alloc, &["build"])?;
     let input = vec![in alloc; b' '; 67_108_865]?;
-    let mut host = MemHost::new(alloc, &input, NONE, 100)?;
+    let mut host = MemHost::new(alloc, &input, &[], NONE, 100)?;
     assert_eq!(rt; run(alloc, &build, &mut host), 7);
     assert!(rt; host.errors() == b"input too long\n".as_slice());
     let within = input.len() - 1;
-    let mut host = MemHost::new(alloc, &input[..within], NONE, 100)?;
+    let mut host = MemHost::new(alloc, &input[..within], &[], NONE, 100)?;
     assert_eq!(rt; run(alloc, &build, &mut host), 6);
     Ok(())
 }
@@ -289,7 +285,7 @@ fn failing_streams_have_their_status(rt: HostRuntime) -> Result<(), Fail> {
             reads: &reads,
             ..NONE
         };
-        let mut host = MemHost::new(alloc, MAIN.as_bytes(), fails, 2000)?;
+        let mut host = MemHost::new(alloc, MAIN.as_bytes(), &[], fails, 2000)?;
         assert_eq!(rt; run(alloc, &build, &mut host), 3);
         assert_eq!(rt; host.output().len(), 0);
         assert!(rt; host.errors() == b"reading failed\n".as_slice());
@@ -298,12 +294,12 @@ fn failing_streams_have_their_status(rt: HostRuntime) -> Result<(), Fail> {
         writes: &[0],
         ..NONE
     };
-    let mut host = MemHost::new(alloc, MAIN.as_bytes(), fails, 2000)?;
+    let mut host = MemHost::new(alloc, MAIN.as_bytes(), &[], fails, 2000)?;
     assert_eq!(rt; run(alloc, &build, &mut host), 4);
     assert_eq!(rt; host.output().len(), 0);
     assert!(rt; host.errors() == b"writing failed\n".as_slice());
     // Where the room ends, a front of the line was written.
-    let mut host = MemHost::new(alloc, MAIN.as_bytes(), NONE, 700)?;
+    let mut host = MemHost::new(alloc, MAIN.as_bytes(), &[], NONE, 700)?;
     assert_eq!(rt; run(alloc, &build, &mut host), 4);
     assert_eq!(rt; host.output().len(), 700);
     assert!(rt; is_front(host.output(), MAIN_FILE));
@@ -312,7 +308,7 @@ fn failing_streams_have_their_status(rt: HostRuntime) -> Result<(), Fail> {
         err_writes: &[0],
         ..NONE
     };
-    let mut host = MemHost::new(alloc, b"", fails, 2000)?;
+    let mut host = MemHost::new(alloc, b"", &[], fails, 2000)?;
     assert_eq!(rt; run(alloc, &build, &mut host), 6);
     assert_eq!(rt; host.errors().len(), 0);
     Ok(())

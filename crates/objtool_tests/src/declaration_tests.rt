@@ -15,7 +15,7 @@ fn ten_functions_and_ten_data_objects_have_symbols_in_order_of_creation(
     let alloc = rt.alloc();
     let build = words(alloc, &["build"])?;
     let text = part_of(alloc, MIXED)?;
-    let mut host = MemHost::new(alloc, text.as_bytes(), NONE, 4000)?;
+    let mut host = MemHost::new(alloc, text.as_bytes(), &[], NONE, 4000)?;
     assert_eq!(rt; run(alloc, &build, &mut host), 0);
     assert!(rt; is_file(host.output(), MIXED_FILE));
     Ok(())
@@ -57,7 +57,7 @@ fn a_refused_declaration_of_data_is_named(rt: HostRuntime) -> Result<(), Fail> {
     ];
     for (commands, want) in cases {
         let text = part_of(alloc, commands)?;
-        let mut host = MemHost::new(alloc, text.as_bytes(), NONE, 2000)?;
+        let mut host = MemHost::new(alloc, text.as_bytes(), &[], NONE, 2000)?;
         assert_eq!(rt; run(alloc, &build, &mut host), 1, "{want}");
         assert!(rt; host.errors() == want.as_bytes(), "{want}");
         assert_eq!(rt; host.output().len(), 0);
@@ -76,7 +76,7 @@ fn a_mark_of_data_is_a_truth_value(rt: HostRuntime) -> Result<(), Fail> {
     ];
     for commands in cases {
         let text = part_of(alloc, commands)?;
-        let mut host = MemHost::new(alloc, text.as_bytes(), NONE, 2000)?;
+        let mut host = MemHost::new(alloc, text.as_bytes(), &[], NONE, 2000)?;
         assert_eq!(rt; run(alloc, &build, &mut host), 6, "{commands}");
     }
     Ok(())

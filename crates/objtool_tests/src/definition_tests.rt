@@ -34,7 +34,7 @@ fn each_definition_stands_in_the_section_of_its_kind(rt: HostRuntime) -> Result<
     ];
     for (commands, file) in cases {
         let text = part_of(alloc, commands)?;
-        let mut host = MemHost::new(alloc, text.as_bytes(), NONE, 8000)?;
+        let mut host = MemHost::new(alloc, text.as_bytes(), &[], NONE, 8000)?;
         assert_eq!(rt; run(alloc, &build, &mut host), 0, "{commands}");
         assert!(rt; is_file(host.output(), file), "{commands}");
     }
@@ -45,7 +45,7 @@ fn each_definition_stands_in_the_section_of_its_kind(rt: HostRuntime) -> Result<
 fn the_options_of_a_part_give_sections_of_their_own(rt: HostRuntime) -> Result<(), Fail> {
     let alloc = rt.alloc();
     let build = words(alloc, &["build"])?;
-    let mut host = MemHost::new(alloc, OWN.as_bytes(), NONE, 8000)?;
+    let mut host = MemHost::new(alloc, OWN.as_bytes(), &[], NONE, 8000)?;
     assert_eq!(rt; run(alloc, &build, &mut host), 0);
     assert!(rt; is_file(host.output(), OWN_FILE));
     Ok(())
@@ -131,7 +131,7 @@ fn a_refused_definition_has_status_1_and_names_its_place(rt: HostRuntime) -> Res
     ];
     for (commands, want) in cases {
         let text = part_of(alloc, commands)?;
-        let mut host = MemHost::new(alloc, text.as_bytes(), NONE, 2000)?;
+        let mut host = MemHost::new(alloc, text.as_bytes(), &[], NONE, 2000)?;
         assert_eq!(rt; run(alloc, &build, &mut host), 1, "{want}");
         assert!(rt; host.errors() == want.as_bytes(), "{want}");
         assert_eq!(rt; host.output().len(), 0);
@@ -147,7 +147,7 @@ fn zeros_of_a_zero_fill_section_are_a_number(rt: HostRuntime) -> Result<(), Fail
         alloc,
         "{\"op\":\"declare_data\",\"name\":\"d\",\"linkage\":\"Local\"},{\"op\":\"define_data\",\"id\":0,\"zeros\":9223372036854775806}",
     )?;
-    let mut host = MemHost::new(alloc, text.as_bytes(), NONE, 2000)?;
+    let mut host = MemHost::new(alloc, text.as_bytes(), &[], NONE, 2000)?;
     assert_eq!(rt; run(alloc, &build, &mut host), 0);
     Ok(())
 }
@@ -176,7 +176,7 @@ fn definitions_out_of_form_are_not_understood(rt: HostRuntime) -> Result<(), Fai
     ];
     for commands in cases {
         let text = part_of(alloc, commands)?;
-        let mut host = MemHost::new(alloc, text.as_bytes(), NONE, 2000)?;
+        let mut host = MemHost::new(alloc, text.as_bytes(), &[], NONE, 2000)?;
         assert_eq!(rt; run(alloc, &build, &mut host), 6, "{commands}");
         assert!(rt;
             host.errors() == b"input not understood\n".as_slice(),

@@ -42,7 +42,7 @@ fn a_part_has_at_most_65274_sections_of_its_own(rt: HostRuntime) -> Result<(), F
     let alloc = rt.alloc();
     let build = words(alloc, &["build"])?;
     let part = data_objects(alloc, "elf", 65_274, "s")?;
-    let mut host = MemHost::new(alloc, part.as_bytes(), NONE, 14_000_000)?;
+    let mut host = MemHost::new(alloc, part.as_bytes(), &[], NONE, 14_000_000)?;
     assert_eq!(rt; run(alloc, &build, &mut host), 0);
     assert_eq!(rt; host.output().len(), 2 * SIZE + 1);
     assert!(rt; host.output().starts_with(HEADER.as_bytes()));
@@ -54,7 +54,7 @@ fn one_section_more_is_too_many(rt: HostRuntime) -> Result<(), Fail> {
     let alloc = rt.alloc();
     let build = words(alloc, &["build"])?;
     let part = data_objects(alloc, "elf", 65_275, "s")?;
-    let mut host = MemHost::new(alloc, part.as_bytes(), NONE, 100)?;
+    let mut host = MemHost::new(alloc, part.as_bytes(), &[], NONE, 100)?;
     assert_eq!(rt; run(alloc, &build, &mut host), 1);
     assert!(rt; host.errors() == b"part 0 end: too many sections: 65280\n".as_slice());
     Ok(())

@@ -95,7 +95,7 @@ fn each_mach_o_part_has_its_file(rt: HostRuntime) -> Result<(), Fail> {
         (AARCH64, AARCH64_FILE),
     ];
     for (text, file) in cases {
-        let mut host = MemHost::new(alloc, text.as_bytes(), NONE, 4000)?;
+        let mut host = MemHost::new(alloc, text.as_bytes(), &[], NONE, 4000)?;
         assert_eq!(rt; run(alloc, &build, &mut host), 0, "{text}");
         assert!(rt; is_file(host.output(), file), "{text}");
         assert_eq!(rt; host.errors().len(), 0, "{text}");
@@ -150,7 +150,7 @@ const REFUSED: &[(&str, &str, &str)] = &[
 /// The status of a build, and its fault text.
 fn built(alloc: Global, text: &str) -> Result<(u8, Vec<u8>), AllocError> {
     let build = words(alloc, &["build"])?;
-    let mut host = MemHost::new(alloc, text.as_bytes(), NONE, 4000)?;
+    let mut host = MemHost::new(alloc, text.as_bytes(), &[], NONE, 4000)?;
     let status = run(alloc, &build, &mut host);
     Ok((status, host.errors().to_vec(alloc)?))
 }

@@ -37,7 +37,7 @@ fn a_reader_of_pe_files_is_told(rt: HostRuntime) -> Result<(), Fail> {
     ];
     for (command, text, want) in cases {
         let line = words(alloc, &[command])?;
-        let mut host = MemHost::new(alloc, text.as_bytes(), NONE, 4000)?;
+        let mut host = MemHost::new(alloc, text.as_bytes(), &[], NONE, 4000)?;
         assert_eq!(rt; run(alloc, &line, &mut host), 0, "{want}");
         assert!(rt; host.output() == want.as_bytes(), "{want}");
         assert_eq!(rt; host.errors().len(), 0, "{want}");
@@ -132,7 +132,7 @@ fn a_refused_pe_file_has_its_cause(rt: HostRuntime) -> Result<(), Fail> {
     ];
     for (command, text, want) in cases {
         let line = words(alloc, &[command])?;
-        let mut host = MemHost::new(alloc, text.as_bytes(), NONE, 4000)?;
+        let mut host = MemHost::new(alloc, text.as_bytes(), &[], NONE, 4000)?;
         assert_eq!(rt; run(alloc, &line, &mut host), 1, "{want}");
         assert!(rt; host.errors() == want.as_bytes(), "{want}");
         assert_eq!(rt; host.output().len(), 0, "{want}");
@@ -193,7 +193,7 @@ fn an_input_that_is_no_pe_file_in_json_is_not_understood(rt: HostRuntime) -> Res
     ];
     for (command, text) in cases {
         let line = words(alloc, &[command])?;
-        let mut host = MemHost::new(alloc, text.as_bytes(), NONE, 4000)?;
+        let mut host = MemHost::new(alloc, text.as_bytes(), &[], NONE, 4000)?;
         assert_eq!(rt; run(alloc, &line, &mut host), 6, "{text}");
         assert!(rt;
             host.errors() == b"input not understood\n".as_slice(),

@@ -19,7 +19,7 @@ fn a_relocation_is_named_by_its_machine_and_its_number(rt: HostRuntime) -> Resul
     };
     for (line, want) in cases {
         let line = words(alloc, &line)?;
-        let mut host = MemHost::new(alloc, b"", fails, 100)?;
+        let mut host = MemHost::new(alloc, b"", &[], fails, 100)?;
         assert_eq!(rt; run(alloc, &line, &mut host), 0, "{want}");
         assert!(rt; host.output() == want.as_bytes(), "{want}");
     }
@@ -41,7 +41,7 @@ fn numbers_out_of_form_are_no_words_of_a_command(rt: HostRuntime) -> Result<(), 
     ];
     for line in cases {
         let line = words(alloc, &line)?;
-        let mut host = MemHost::new(alloc, b"", NONE, 100)?;
+        let mut host = MemHost::new(alloc, b"", &[], NONE, 100)?;
         assert_eq!(rt; run(alloc, &line, &mut host), 2);
         assert!(rt; host.errors() == b"words not understood\n".as_slice());
     }
@@ -56,7 +56,7 @@ fn declarations_are_read_and_written_again(rt: HostRuntime) -> Result<(), Fail> 
         "{\"_version_marker\":\"0.137.1\",\"functions\":[],\"data_objects\":[{\"name\":\"x\",\"linkage\":\"Local\",\"writable\":false,\"tls\":false}]}";
     let want =
         "{\"_version_marker\":\"0.137.1\",\"data_objects\":[{\"linkage\":\"Local\",\"name\":\"x\",\"tls\":false,\"writable\":false}],\"functions\":[]}\n";
-    let mut host = MemHost::new(alloc, text.as_bytes(), NONE, 1000)?;
+    let mut host = MemHost::new(alloc, text.as_bytes(), &[], NONE, 1000)?;
     assert_eq!(rt; run(alloc, &line, &mut host), 0);
     assert!(rt; host.output() == want.as_bytes());
     assert_eq!(rt; host.errors().len(), 0);
@@ -83,7 +83,7 @@ fn declarations_that_are_refused_have_their_cause(rt: HostRuntime) -> Result<(),
         ("{", 6, "input not understood\n"),
     ];
     for (text, status, want) in cases {
-        let mut host = MemHost::new(alloc, text.as_bytes(), NONE, 1000)?;
+        let mut host = MemHost::new(alloc, text.as_bytes(), &[], NONE, 1000)?;
         assert_eq!(rt; run(alloc, &line, &mut host), status, "{want}");
         assert!(rt; host.errors() == want.as_bytes(), "{want}");
         assert_eq!(rt; host.output().len(), 0, "{want}");

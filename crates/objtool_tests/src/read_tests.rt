@@ -122,7 +122,7 @@ fn files_are_read_as_their_rows(rt: HostRuntime) -> Result<(), Fail> {
     for (file, pieces) in cases {
         let file = bytes_of(alloc, file)?;
         let want = line_of(alloc, pieces)?;
-        let mut host = MemHost::new(alloc, &file, NONE, 4000)?;
+        let mut host = MemHost::new(alloc, &file, &[], NONE, 4000)?;
         assert_eq!(rt; run(alloc, &read, &mut host), 0);
         assert!(rt; host.output() == want.as_bytes());
         assert_eq!(rt; host.errors().len(), 0);
@@ -137,7 +137,7 @@ fn what_is_no_object_file_is_refused(rt: HostRuntime) -> Result<(), Fail> {
     for file in [MAIN_FILE, CALL_FILE, WIDE_FILE] {
         let file = bytes_of(alloc, file)?;
         for len in 0..file.len() {
-            let mut host = MemHost::new(alloc, &file[..len], NONE, 100)?;
+            let mut host = MemHost::new(alloc, &file[..len], &[], NONE, 100)?;
             assert_eq!(rt; run(alloc, &read, &mut host), 1, "{len}");
             assert_eq!(rt; host.output().len(), 0);
             assert!(rt; host.errors() == b"neither an object file nor a fat file\n".as_slice());
@@ -151,15 +151,15 @@ fn a_raw_file_has_the_bytes_of_its_line(rt: HostRuntime) -> Result<(), Fail> {
     let alloc = rt.alloc();
     let raw = words(alloc, &["build", "--raw"])?;
     let want = bytes_of(alloc, MAIN_FILE)?;
-    let mut host = MemHost::new(alloc, MAIN.as_bytes(), NONE, 2000)?;
+    let mut host = MemHost::new(alloc, MAIN.as_bytes(), &[], NONE, 2000)?;
     assert_eq!(rt; run(alloc, &raw, &mut host), 0);
     assert!(rt; host.output() == want.as_slice());
-    let mut host = MemHost::new(alloc, b"[", NONE, 100)?;
+    let mut host = MemHost::new(alloc, b"[", &[], NONE, 100)?;
     assert_eq!(rt; run(alloc, &raw, &mut host), 6);
     assert!(rt; host.errors() == b"input not understood\n".as_slice());
     for line in [["build", "raw"], ["build", "--RAW"], ["read", "--raw"]] {
         let line = words(alloc, &line)?;
-        let mut host = MemHost::new(alloc, MAIN.as_bytes(), NONE, 2000)?;
+        let mut host = MemHost::new(alloc, MAIN.as_bytes(), &[], NONE, 2000)?;
         assert_eq!(rt; run(alloc, &line, &mut host), 2);
     }
     Ok(())

@@ -37,7 +37,7 @@ fn each_of_a_thousand_sections_of_one_name_has_it_in_the_file(rt: HostRuntime) -
     let build = words(alloc, &["build"])?;
     let name = long_name(alloc)?;
     let part = data_objects(alloc, "elf", 1000, &name)?;
-    let mut host = MemHost::new(alloc, part.as_bytes(), NONE, 3_000_000)?;
+    let mut host = MemHost::new(alloc, part.as_bytes(), &[], NONE, 3_000_000)?;
     assert_eq!(rt; run(alloc, &build, &mut host), 0);
     assert_eq!(rt; host.output().len(), 2 * SIZE + 1);
     assert_eq!(rt; checksum(host.output()), CHECKSUM);

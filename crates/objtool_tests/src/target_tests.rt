@@ -199,7 +199,7 @@ fn part_for(alloc: Global, keys: &str, commands: &str) -> Result<String, AllocEr
 /// Shows that a part is built, and as which bytes.
 fn builds(rt: &impl Abort, alloc: Global, part: &str, file: &[&str]) -> Result<(), Fail> {
     let build = words(alloc, &["build"])?;
-    let mut host = MemHost::new(alloc, part.as_bytes(), NONE, 8000)?;
+    let mut host = MemHost::new(alloc, part.as_bytes(), &[], NONE, 8000)?;
     assert_eq!(rt; run(alloc, &build, &mut host), 0, "{part}");
     assert!(rt; is_file(host.output(), file), "{part}");
     assert_eq!(rt; host.errors().len(), 0);
@@ -209,7 +209,7 @@ fn builds(rt: &impl Abort, alloc: Global, part: &str, file: &[&str]) -> Result<(
 /// Shows that a part is built.
 fn takes(rt: &impl Abort, alloc: Global, part: &str) -> Result<(), Fail> {
     let build = words(alloc, &["build"])?;
-    let mut host = MemHost::new(alloc, part.as_bytes(), NONE, 8000)?;
+    let mut host = MemHost::new(alloc, part.as_bytes(), &[], NONE, 8000)?;
     assert_eq!(rt; run(alloc, &build, &mut host), 0, "{part}");
     Ok(())
 }
@@ -217,7 +217,7 @@ fn takes(rt: &impl Abort, alloc: Global, part: &str) -> Result<(), Fail> {
 /// Shows that a part is answered with this status and this fault text alone.
 fn refuses(rt: &impl Abort, alloc: Global, part: &str, status: u8, want: &str) -> Result<(), Fail> {
     let build = words(alloc, &["build"])?;
-    let mut host = MemHost::new(alloc, part.as_bytes(), NONE, 8000)?;
+    let mut host = MemHost::new(alloc, part.as_bytes(), &[], NONE, 8000)?;
     assert_eq!(rt; run(alloc, &build, &mut host), status, "{part}");
     assert!(rt; host.errors() == want.as_bytes(), "{part}: {want}");
     assert_eq!(rt; host.output().len(), 0);
