@@ -9,13 +9,13 @@ use Rattle.image_place.specs.RangeRows.{definition_seen}
 use Rattle.image_place.proofs.ApplyingLaws.{fixed_end}
 use Rattle.image_place.proofs.filling.placed_bytes.Goals as goal
 
-pub returns-clause-ok : goal.returns-clause-ok
-returns-clause-ok c =
+pub returns : goal.returns
+returns c =
     let F = address_found c.args.scene.exports.now c.args.scene.outsides.now in
     let at = given c.args.scene.addresses.now c.args.scene.image in
     let ds = map definition_seen c.args.scene.definitions.now in
-    let p = at c.args.definition.row in
+    let p = c.args.definition.address in
     sym
-    (c.loop-relocation.invariant
+    (c.loop-relocation.invariant.rest
     ∙ ap (λ (rs : List ViewReloc). fixed c.loop-relocation.bytes.items p (held_by F at c.args.scene.view.now ds (definition_seen c.args.definition) c.args.section.now.start rs)) (drop_all c.loop-relocation.relocation-index c.args.section.now.relocations (omega (arith, ap length c.relocations-relocation-items.ensures)))
     ∙ fixed_end c.loop-relocation.bytes.items p)
