@@ -3,14 +3,23 @@ use Rattle.std.proofs.Common.{◌≡◌, ℕ, zero, suc, ◌+◌, ◌-◌, ◌==
 use Rattle.std.specs.Prelude.{Option, option_map, option_and_then, is_some, not, ◌&&◌, ◌||◌, filter, flat_map, if◌then◌else◌}
 use Rattle.std.specs.List.{filter_map, cons_option, enumerate_from, list_any}
 use Rattle.std.specs.Option.{option_or}
+use Rattle.std.specs.Borrow.{Bor}
+use Rattle.std.specs.HashMap.{HashMap}
 use Rattle.std.proofs.lemmas.Bool.{ne_eqb}
+use Rattle.ir_core.specs.Moments.{moments}
 use Rattle.byte_core.specs.Number.{bytes_at}
-use Rattle.image_place.specs.Fixups.{FixKind, Goal, own, named, Fixup, Piece, Resolved, Patch, bound, address_of, resolved, patch_of, value_bytes, fixed, memory_of}
+use Rattle.image_place.specs.Fixups.{FixKind, Goal, own, named, Fixup, Piece, bound, outside, exporters_from, address_of, resolved, patch_of, value_bytes, fixed, memory_of}
 use Rattle.image_place.specs.View.{View, ViewReloc, ViewSection}
-use Rattle.image_place.specs.Placed.{AddressRow, Definition, definitions_in, given, fixup_at, holds_field, row_goal, piece_in, view_pieces, all_pieces, entry_of, PlacedEntry, placed_entries, PlaceFault, first_fault, fault_if, other_kind, no_address, loose_label, does_not_fit, goal_fault, is_too_far, holders, reloc_fault, image_faults}
+use Rattle.image_place.specs.Placed.{AddressRow, Definition, definitions_in, given, fixup_at, holds_field, row_goal, piece_in, view_pieces, all_pieces, entry_of, PlacedEntry, placed_entries, PlaceFault, first_fault, fault_if, other_kind, no_address, loose_label, does_not_fit, goal_fault, is_too_far, holders, reloc_fault, image_faults, twice_fault, address_fault, all_definitions, place_fault}
 use Rattle.image_place.specs.Leading.{Binding, led, led_name, holds_it, is_far, led_fault, kind_fault, fault_by, section_faults, view_faults, numbered_faults, faults_by}
 use Rattle.image_place.specs.Applying.{goal_address, resolved_by, held_by, bytes_by, entry_by, numbered_entries, entries_by}
-use Rattle.image_place.proofs.EntryLaws.{IsGiven, definition_given}
+use Rattle.image_place.specs.Applying.{AreWhole, AllHaveRanges}
+use Rattle.image_place.specs.Faults.{definition_faults}
+use Rattle.image_place.specs.Naming.{at_name, told_all, found_or, address_found, Exports, Outsides}
+use Rattle.image_place.proofs.EntryLaws.{definition_given, fault_right}
+use Rattle.image_place.proofs.FaultLaws.{place_parts}
+use Rattle.image_place.proofs.NamingLaws.{bound_told}
+use Rattle.image_place.proofs.WholeLaws.{all_ranges}
 
 -- what names are bound to by the definitions of objects, and from outside
 abbrev pub Binds : List View → List AddressRow → List (List ℕ × ℕ) → Binding → Type 0
@@ -170,3 +179,21 @@ entries_from objects addresses externs F n (v ∷ views) h =
 pub entries_same : (views : List View) (addresses : List AddressRow) (externs : List (List ℕ × ℕ)) (F : Binding) → Binds views addresses externs F → entries_by F addresses views ≡ placed_entries views addresses externs
 unfolding placed_entries
 entries_same views addresses externs F h = entries_from (all_pieces addresses views) addresses externs F 0 views h
+
+-- -- the maps of names, and all refusals
+
+pub binds : {S T : Type 0} (exports : HashMap (Bor (List ℕ)) (Option ℕ) S) (outsides : HashMap (Bor (List ℕ)) ℕ T) (views : List View) (addresses : List AddressRow) (externs : List (List ℕ × ℕ)) → Exports exports (all_pieces addresses views) (given addresses) → Outsides outsides externs
+    → Binds views addresses externs (address_found exports outsides)
+binds exports outsides views addresses externs e o x =
+    ap (λ t. found_or t (at_name outsides x)) (e x) ∙ ap (found_or (told_all None (exporters_from x (given addresses) 0 (all_pieces addresses views)))) (o x) ∙ bound_told (exporters_from x (given addresses) 0 (all_pieces addresses views)) (outside x externs)
+
+-- where definitions have a fault it is the first, and else the first is that of a relocation
+pub definitions_first : (views : List View) (addresses : List AddressRow) (externs : List (List ℕ × ℕ)) (fault : PlaceFault) → first_fault (definition_faults views addresses) ≡ Some fault → place_fault views addresses externs ≡ Some fault
+definitions_first views addresses externs fault e = place_parts views addresses externs ∙ ap (λ o. option_or o (first_fault (flat_map (image_faults views addresses externs) (enumerate_from 0 views)))) e
+
+pub relocations_first : (views : List View) (addresses : List AddressRow) (externs : List (List ℕ × ℕ)) (F : Binding) → Binds views addresses externs F → first_fault (definition_faults views addresses) ≡ None → place_fault views addresses externs ≡ first_fault (faults_by F addresses views)
+relocations_first views addresses externs F h e =
+    place_parts views addresses externs ∙ ap (λ o. option_or o (first_fault (flat_map (image_faults views addresses externs) (enumerate_from 0 views)))) e ∙ ap first_fault (sym (faults_same views addresses externs F h))
+
+pub ranges_there : (views : List View) (addresses : List AddressRow) → AreWhole views → first_fault (definition_faults views addresses) ≡ None → AllHaveRanges addresses views
+ranges_there views addresses whole none = all_ranges views addresses whole (fault_right (map twice_fault (moments (all_definitions views))) (map (address_fault views addresses) (all_definitions views)) none)

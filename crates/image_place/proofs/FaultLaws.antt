@@ -1,5 +1,5 @@
 -- The first fault of lists of faults, and the errors that tell it.
-use Rattle.std.proofs.Common.{◌≡◌, ℕ, suc, ◌+◌, ◌<◌, ◌≤◌, List, [], ◌∷◌, ◌++◌, length, refl, ap, sym, ◌∙◌, arith, Some, None, drop, drop-cons, get_or, tt}
+use Rattle.std.proofs.Common.{◌≡◌, ℕ, suc, ◌+◌, ◌<◌, ◌≤◌, List, [], ◌∷◌, ◌++◌, length, refl, ap, sym, ◌∙◌, arith, Some, None, drop, drop-cons, get_or}
 use Rattle.std.proofs.lemmas.List.{drop_all}
 use Rattle.std.specs.Prelude.{Option, flat_map}
 use Rattle.std.specs.List.{enumerate_from}
@@ -72,3 +72,14 @@ rest_next f xs i d below =
 
 pub rest_none : {A : Type 0} (f : ℕ × A → List (Option PlaceFault)) (xs : List A) (i : ℕ) → length xs ≤ i → first_fault (flat_map f (enumerate_from i (drop i xs))) ≡ None
 rest_none f xs i h = ap (λ ys. first_fault (flat_map f (enumerate_from i ys))) (drop_all i xs h)
+
+-- the fault of image i, and the faults behind it
+pub fault_here : {A : Type 0} (f : ℕ × A → List (Option PlaceFault)) (xs : List A) (i : ℕ) (x : A) (fault : PlaceFault) → i < length xs → x ≡ get_or xs i x → first_fault (f (i, x)) ≡ Some fault → first_fault (flat_map f (enumerate_from i (drop i xs))) ≡ Some fault
+fault_here f xs i x fault below is e =
+    let rest = first_fault (flat_map f (enumerate_from (i + 1) (drop (i + 1) xs))) in
+    rest_next f xs i x below ∙ ap (λ y. option_or (first_fault (f (i, y))) rest) (sym is) ∙ ap (λ o. option_or o rest) e
+
+pub fault_later : {A : Type 0} (f : ℕ × A → List (Option PlaceFault)) (xs : List A) (i : ℕ) (x : A) → i < length xs → x ≡ get_or xs i x → first_fault (f (i, x)) ≡ None → first_fault (flat_map f (enumerate_from i (drop i xs))) ≡ first_fault (flat_map f (enumerate_from (i + 1) (drop (i + 1) xs)))
+fault_later f xs i x below is e =
+    let rest = first_fault (flat_map f (enumerate_from (i + 1) (drop (i + 1) xs))) in
+    rest_next f xs i x below ∙ ap (λ y. option_or (first_fault (f (i, y))) rest) (sym is) ∙ ap (λ o. option_or o rest) e

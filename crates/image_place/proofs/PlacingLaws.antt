@@ -1,11 +1,14 @@
 -- Entries that are appended one after the other.
-use Rattle.std.proofs.Common.{◌≡◌, ℕ, ◌+◌, ◌<◌, ◌≤◌, List, [], ◌∷◌, ◌++◌, length, map, take, get_or, refl, ap, sym, ◌∙◌, append_assoc, append-nil}
+use Rattle.std.proofs.Common.{◌≡◌, ℕ, ◌+◌, ◌<◌, ◌≤◌, List, [], ◌∷◌, ◌++◌, length, map, take, get_or, refl, ap, sym, ◌∙◌, append_assoc, append-nil, Some, None, slice_get}
 use Rattle.std.specs.Prelude.{Option, flat_map}
 use Rattle.std.specs.List.{filter_map, enumerate_from}
 use Rattle.std.proofs.lemmas.List.{take_all, map_more}
 use Rattle.std.proofs.lemmas.Grind.{flat_map-append}
 use Rattle.image_place.specs.RangeRows.{definition_seen, one_or_none}
+use Rattle.image_place.specs.View.{View, ViewSection}
 use Rattle.image_place.specs.Placed.{Definition, PlacedEntry}
+use Rattle.image_place.specs.Leading.{Binding}
+use Rattle.image_place.specs.Applying.{bytes_by, entry_by}
 use Rattle.image_place.specs.declared.ranges.Definition.{Definition as Row}
 use Rattle.image_place.proofs.DefinitionLaws.{enumerate_more}
 use Rattle.image_place.proofs.RangeSteps.{filter_map_end}
@@ -24,3 +27,10 @@ pub entry_next : (f : Definition → Option PlacedEntry) (front old new : List P
 entry_next f front old new rows i d below n o =
     n ∙ ap (λ ys. ys ++ one_or_none (f (definition_seen (get_or rows i d)))) o ∙ append_assoc front (filter_map f (map definition_seen (take i rows))) (one_or_none (f (definition_seen (get_or rows i d))))
     ∙ ap (λ ys. front ++ ys) (sym (ap (filter_map f) (map_more definition_seen rows i d below) ∙ filter_map_end f (map definition_seen (take i rows)) (definition_seen (get_or rows i d))))
+
+-- the entry of a definition by its section and its bytes
+pub entry_valueless : (F : Binding) (at : ℕ → ℕ) (q : ℕ) (v : View) (ds : List Definition) (d : Definition) (s : ViewSection) → slice_get v.sections d.section ≡ Some s → bytes_by F at v ds d s ≡ None → entry_by F at q v ds d ≡ None
+entry_valueless F at q v ds d s e h = rw (e, h) refl
+
+pub entry_there : (F : Binding) (at : ℕ → ℕ) (q : ℕ) (v : View) (ds : List Definition) (d : Definition) (s : ViewSection) (bytes : List ℕ) → slice_get v.sections d.section ≡ Some s → bytes_by F at v ds d s ≡ Some bytes → entry_by F at q v ds d ≡ Some (record { image = q; symbol = d.row; address = d.address; bytes = bytes })
+entry_there F at q v ds d s bytes e h = rw (e, h) refl

@@ -16,7 +16,7 @@ use Rattle.image_read.specs.declared.image.Image.{Image}
 use Rattle.image_read.specs.declared.image.Image.TheVariants.{Elf, Mach, Fat}
 use Rattle.image_place.specs.View.{View, ViewSymbol, ViewSection, filled, elf_view, elf_view_section, mach_view, mach_view_section, view_of}
 use Rattle.image_place.specs.Placed.{AddressRow, At, Definition, definition_at, definitions_in, row_for, symbols_at, all_definitions, PlaceFault, first_fault, address_fault, is_homeless, leaves, section_of, is_definition, no_address, IsViewed, AreViewed}
-use Rattle.image_place.specs.Applying.{HasRange, HaveRanges, AllHaveRanges, IsWhole, AreWhole}
+use Rattle.image_place.specs.Applying.{HasRange, IsHome, HaveRanges, AllHaveRanges, IsWhole, AreWhole}
 use Rattle.image_place.proofs.DefinitionLaws.{map_append}
 use Rattle.image_place.proofs.EntryLaws.{fault_left, fault_right, fault_map, enumerated, filtered, false_if}
 
@@ -175,8 +175,12 @@ range_by s d at size e f long h =
 is_definition_by : (s : ViewSymbol) (k : ℕ) → s.section ≡ Some k → s.is_label ≡ false → is_definition s ≡ true
 is_definition_by s k e f = rw (e, f) refl
 
+home_by : (v : View) (d : Definition) (at size : ℕ) (o : Option ViewSection) → IsWhole v → slice_get v.sections d.section ≡ o → d.symbol.address ≡ at → size ≡ d.size → leaves at size o ≡ false → IsHome v d
+home_by v d at size None whole e f g h = let both : true ≡ false = h in absurd (cc)
+home_by v d at size (Some s) whole e f g h = record { section = s; here = e; range = range_by s d at size f g (whole d.section s e) h }
+
 pub all_ranges : (views : List View) (addresses : List AddressRow) → AreWhole views → first_fault (map (address_fault views addresses) (all_definitions views)) ≡ None → AllHaveRanges addresses views
-all_ranges views addresses whole none q v at_q k d at_k s at_s =
+all_ranges views addresses whole none q v at_q k d at_k =
     let from = definition_symbol addresses q v k d at_k in
     let start_q : 0 + q ≡ q = omega arith in
     let start_j : 0 + from.number ≡ from.number = omega arith in
@@ -185,9 +189,10 @@ all_ranges views addresses whole none q v at_q k d at_k s at_s =
     let home : is_homeless views a (row_for addresses (0 + q) (0 + from.number)) ≡ false = false_if _ (no_address (0 + q) (0 + from.number)) fault in
     let row : row_for addresses (0 + q) (0 + from.number) ≡ Some from.row = ap (λ n. row_for addresses n (0 + from.number)) start_q ∙ from.given in
     let passes : (leaves from.symbol.address from.row.size (section_of views a) || nat_le (2 ^ 64) (from.row.address + from.row.size)) ≡ false = ap (is_homeless views a) (sym row) ∙ home in
-    let section : section_of views a ≡ Some s = ap (λ n. option_and_then (λ (w : View). option_and_then (λ k. slice_get w.sections k) from.symbol.section) (slice_get views n)) start_q ∙ ap (option_and_then (λ (w : View). option_and_then (λ k. slice_get w.sections k) from.symbol.section)) at_q ∙ ap (option_and_then (λ k. slice_get v.sections k)) from.section ∙ at_s in
-    let inside : leaves from.symbol.address from.row.size (Some s) ≡ false = ap (leaves from.symbol.address from.row.size) (sym section) ∙ (or_parts _ _ passes).0 in
-    range_by s d from.symbol.address from.row.size from.address from.size (whole q v at_q d.section s at_s) inside
+    let section : section_of views a ≡ slice_get v.sections d.section =
+    ap (λ n. option_and_then (λ (w : View). option_and_then (λ k. slice_get w.sections k) from.symbol.section) (slice_get views n)) start_q ∙ ap (option_and_then (λ (w : View). option_and_then (λ k. slice_get w.sections k) from.symbol.section)) at_q ∙ ap (option_and_then (λ k. slice_get v.sections k)) from.section in
+    let inside : leaves from.symbol.address from.row.size (slice_get v.sections d.section) ≡ false = ap (leaves from.symbol.address from.row.size) (sym section) ∙ (or_parts _ _ passes).0 in
+    home_by v d from.symbol.address from.row.size (slice_get v.sections d.section) (whole q v at_q) refl from.address from.size inside
 
 -- the bytes of a definition are as many as its size
 pub range_long : (s : ViewSection) (d : Definition) → HasRange s d → length (bytes_at s.bytes (d.symbol.address - s.start) d.size) ≡ d.size

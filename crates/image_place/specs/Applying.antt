@@ -47,9 +47,11 @@ pub record HasRange (s : ViewSection) (d : Definition) : Type 0 where
   pub low : s.start ≤ d.symbol.address
   pub end : d.symbol.address + d.size ≤ s.start + length s.bytes
 
--- a definition has its range in its section, if it has one
-abbrev pub IsHome : View → Definition → Type 0
-IsHome v d = (s : ViewSection) → slice_get v.sections d.section ≡ Some s → HasRange s d
+-- a definition has its range in a section
+pub record IsHome (v : View) (d : Definition) : Type 0 where
+  pub section : ViewSection
+  pub here : slice_get v.sections d.section ≡ Some section
+  pub range : HasRange section d
 
 -- each of these definitions does
 abbrev pub HaveRanges : View → List Definition → Type 0

@@ -41,9 +41,7 @@ fn append_entry(
     requires home { IsHome scene.view.now (definition_seen definition) }
     ensures { OnOk result (map placed_view out.new.items ≡ map placed_view out.old.items ++ one_or_none (entry_by (address_found scene.entry.exports.now scene.entry.outsides.now) (given scene.entry.addresses.now scene.entry.image) scene.entry.image scene.entry.view.now (map definition_seen scene.entry.definitions.now) (definition_seen definition.entry))) }
 {
-    let Some(section) = scene.view.sections().get(definition.section) else {
-        return Ok(());
-    };
+    let section = &scene.view.sections()[definition.section];
     let Some(bytes) = placed_bytes(alloc, scene, definition, section)? else {
         return Ok(());
     };

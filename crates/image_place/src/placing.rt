@@ -84,12 +84,12 @@ fn definitions_fault(
 }
 
 // The entries of all images, by what names are bound to.
-fn place_images(
+fn place_images<'s>(
     alloc: Global,
-    exports: &HashMap<&[u8], Option<u64>>,
-    outsides: &HashMap<&[u8], u64>,
-    addresses: &Addresses<'_>,
-    views: &[View<'_>],
+    exports: &'s HashMap<&'s [u8], Option<u64>>,
+    outsides: &'s HashMap<&'s [u8], u64>,
+    addresses: &'s Addresses<'s>,
+    views: &'s [View<'s>],
 ) -> Result<Vec<PlacedBytes>, PlaceError>
     requires ranges { AllHaveRanges addresses.now views.now }
     ensures none { OnOk result (first_fault (faults_by (address_found exports.now outsides.now) addresses.now views.now) ≡ None) }
@@ -100,11 +100,11 @@ fn place_images(
     for (image, view) in views.iter().enumerate() {
         let definitions = definitions_in(alloc, addresses, image, view)?;
         let scene = Scene {
-            exports,
-            outsides,
-            addresses,
+            exports: &*exports,
+            outsides: &*outsides,
+            addresses: &*addresses,
             image,
-            view,
+            view: &*view,
             definitions: &definitions,
         };
         place_image(alloc, scene, &mut out)?;
