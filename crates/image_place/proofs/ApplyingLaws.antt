@@ -81,28 +81,28 @@ no_address_patch x p (Some kind) e f = rw (e, f) refl
 pub fails_unbound : (F : Binding) (at : ℕ → ℕ) (v : View) (ds : List Definition) (d : Definition) (start : ℕ) (r : ViewReloc) (old new : List ℕ) → holds_field start r r.kind d ≡ true → led F at (row_goal v ds r.symbol) ≡ Unbound → Applies F at v ds d start r old false new
 fails_unbound F at v ds d start r old new h e rs =
     let far = led_unbound F at (row_goal v ds r.symbol) e in
-    ap (fixed old (at d.row)) (held_next F at v ds d start r far.goal rs h far.is)
-    ∙ fixed_none old (at d.row) (there F at d start r far.goal) (held_by F at v ds d start rs) (no_address_patch (there F at d start r far.goal) (at d.row) r.kind refl far.address)
+    ap (fixed old d.address) (held_next F at v ds d start r far.goal rs h far.is)
+    ∙ fixed_none old d.address (there F at d start r far.goal) (held_by F at v ds d start rs) (no_address_patch (there F at d start r far.goal) d.address r.kind refl far.address)
 
 patch_is : (x : Resolved) (p : ℕ) (kind : FixKind) (s : ℕ) → x.kind ≡ Some kind → x.address ≡ Some s → patch_of p x ≡ option_map (λ bytes. record { offset = x.offset; bytes = bytes }) (value_bytes kind s x.addend (p + x.offset))
 patch_is x p kind s e f = rw (e, f) refl
 
 pub fails_value : (F : Binding) (at : ℕ → ℕ) (v : View) (ds : List Definition) (d : Definition) (start : ℕ) (r : ViewReloc) (kind : FixKind) (s : ℕ) (old new : List ℕ) → r.kind ≡ Some kind → holds_field start r r.kind d ≡ true → led F at (row_goal v ds r.symbol) ≡ At s
-    → value_bytes kind s r.addend (at d.row + (start + r.offset - d.symbol.address)) ≡ None → Applies F at v ds d start r old false new
+    → value_bytes kind s r.addend (d.address + (start + r.offset - d.symbol.address)) ≡ None → Applies F at v ds d start r old false new
 fails_value F at v ds d start r kind s old new k h e none rs =
     let far = led_at F at (row_goal v ds r.symbol) s e in
     let x = there F at d start r far.goal in
-    ap (fixed old (at d.row)) (held_next F at v ds d start r far.goal rs h far.is)
-    ∙ fixed_none old (at d.row) x (held_by F at v ds d start rs) (patch_is x (at d.row) kind s k far.address ∙ ap (option_map (λ bytes. record { offset = x.offset; bytes = bytes })) none)
+    ap (fixed old d.address) (held_next F at v ds d start r far.goal rs h far.is)
+    ∙ fixed_none old d.address x (held_by F at v ds d start rs) (patch_is x d.address kind s k far.address ∙ ap (option_map (λ bytes. record { offset = x.offset; bytes = bytes })) none)
 
 pub applies_value : (F : Binding) (at : ℕ → ℕ) (v : View) (ds : List Definition) (d : Definition) (start : ℕ) (r : ViewReloc) (kind : FixKind) (s : ℕ) (old new bytes : List ℕ) → r.kind ≡ Some kind → holds_field start r r.kind d ≡ true → led F at (row_goal v ds r.symbol) ≡ At s
-    → value_bytes kind s r.addend (at d.row + (start + r.offset - d.symbol.address)) ≡ Some bytes → new ≡ with_patch old (record { offset = start + r.offset - d.symbol.address; bytes = bytes }) → Applies F at v ds d start r old true new
+    → value_bytes kind s r.addend (d.address + (start + r.offset - d.symbol.address)) ≡ Some bytes → new ≡ with_patch old (record { offset = start + r.offset - d.symbol.address; bytes = bytes }) → Applies F at v ds d start r old true new
 applies_value F at v ds d start r kind s old new bytes k h e some is rs =
     let far = led_at F at (row_goal v ds r.symbol) s e in
     let x = there F at d start r far.goal in
-    ap (fixed old (at d.row)) (held_next F at v ds d start r far.goal rs h far.is)
-    ∙ fixed_some old (at d.row) x (held_by F at v ds d start rs) (record { offset = x.offset; bytes = bytes }) (patch_is x (at d.row) kind s k far.address ∙ ap (option_map (λ ys. record { offset = x.offset; bytes = ys })) some)
-    ∙ ap (λ ys. fixed ys (at d.row) (held_by F at v ds d start rs)) (sym is)
+    ap (fixed old d.address) (held_next F at v ds d start r far.goal rs h far.is)
+    ∙ fixed_some old d.address x (held_by F at v ds d start rs) (record { offset = x.offset; bytes = bytes }) (patch_is x d.address kind s k far.address ∙ ap (option_map (λ ys. record { offset = x.offset; bytes = ys })) some)
+    ∙ ap (λ ys. fixed ys d.address (held_by F at v ds d start rs)) (sym is)
 
 -- a number that is written into a field is a patch
 pub patched : (old new : List ℕ) (o at w width n : ℕ) → new ≡ take o old ++ (little_bytes w n ++ drop (o + w) old) → o ≡ at → w ≡ width → new ≡ with_patch old (record { offset = at; bytes = little_bytes width n })

@@ -8,13 +8,17 @@ mod SplitLaws
 mod ShownLaws
 mod RangeLaws
 mod SoundLaws
-mod EntryLaws
+pub mod EntryLaws
 mod PlacedLaws
 mod KindLaws
 pub mod ViewedLaws
 pub mod FindingLaws
 pub mod DefinitionLaws
 mod TwiceLaws
+pub mod FaultLaws
+pub mod BindingLaws
+pub mod WholeLaws
+pub mod PlacingLaws
 pub mod NamingLaws
 pub mod ExportLaws
 pub mod ApplyingLaws

@@ -1,9 +1,9 @@
 -- Where relocations lead, and their refusals, by what names are bound to.
-use Rattle.std.specs.Prelude.{ℕ, ◌+◌, ◌-◌, ◌==◌, ◌<◌, ◌^◌, ◌&&◌, not, Bool, List, Option, Some, None, is_some, if◌then◌else◌}
-use Rattle.std.specs.List.{list_any}
+use Rattle.std.specs.Prelude.{ℕ, ◌+◌, ◌-◌, ◌==◌, ◌<◌, ◌^◌, ◌&&◌, not, Bool, List, map, flat_map, Option, Some, None, is_some, if◌then◌else◌}
+use Rattle.std.specs.List.{list_any, enumerate_from}
 use Rattle.image_place.specs.Fixups.{FixKind, Goal, own, named, value_bytes}
-use Rattle.image_place.specs.View.{View, ViewReloc}
-use Rattle.image_place.specs.Placed.{Definition, holds_field, row_goal, PlaceFault, other_kind, no_address, loose_label, does_not_fit}
+use Rattle.image_place.specs.View.{View, ViewReloc, ViewSection}
+use Rattle.image_place.specs.Placed.{AddressRow, Definition, definitions_in, given, holds_field, row_goal, PlaceFault, other_kind, no_address, loose_label, does_not_fit}
 pub use Rattle.image_place.specs.declared.leading.Led.{Led}
 use Rattle.image_place.specs.declared.leading.Led.TheVariants.{Loose, Unbound, At}
 
@@ -41,6 +41,22 @@ kind_fault F at q v ds k start r (Some kind) = if list_any (holds_it k start r k
 -- the refusal of a relocation of section k, which begins there
 abbrev pub fault_by : Binding → (ℕ → ℕ) → ℕ → View → List Definition → ℕ → ℕ → ViewReloc → Option PlaceFault
 fault_by F at q v ds k start r = kind_fault F at q v ds k start r r.kind
+
+-- the refusals of the relocations of a section with its number
+abbrev pub section_faults : Binding → (ℕ → ℕ) → ℕ → View → List Definition → ℕ × ViewSection → List (Option PlaceFault)
+section_faults F at q v ds s = map (fault_by F at q v ds s.0 s.1.start) s.1.relocations
+
+-- those of an image
+abbrev pub view_faults : Binding → (ℕ → ℕ) → ℕ → View → List Definition → List (Option PlaceFault)
+view_faults F at q v ds = flat_map (section_faults F at q v ds) (enumerate_from 0 v.sections)
+
+-- those of the image of a number
+abbrev pub numbered_faults : Binding → List AddressRow → ℕ × View → List (Option PlaceFault)
+numbered_faults F addresses e = view_faults F (given addresses e.0) e.0 e.1 (definitions_in addresses e.0 e.1)
+
+-- those of all images
+abbrev pub faults_by : Binding → List AddressRow → List View → List (Option PlaceFault)
+faults_by F addresses views = flat_map (numbered_faults F addresses) (enumerate_from 0 views)
 
 -- an address that is reached has at most 65 bits
 abbrev pub IsNear : Led → Type 0

@@ -1,33 +1,72 @@
 //! The bytes of definitions in memory.
 
-ghost use Rattle.std.specs.Prelude.{◌≡◌, ◌-◌, IfOk, IfErr, map, option_map, replicate, take};
+ghost use Rattle.std.specs.Prelude.{◌≡◌, ◌-◌, ◌++◌, IfOk, OnOk, map, option_map, replicate, take};
+ghost use Rattle.std.specs.List.{filter_map};
 ghost use Rattle.byte_core.specs.Number.{bytes_at};
-ghost use Rattle.image_place.specs.Applying.{bytes_by};
+ghost use Rattle.image_place.specs.Applying.{bytes_by, entry_by, HasRange, HaveRanges, IsHome};
 ghost use Rattle.image_place.specs.Naming.{address_found};
 ghost use Rattle.image_place.specs.Placed.{given};
-ghost use Rattle.image_place.specs.RangeRows.{definition_seen};
-ghost use Rattle.image_place.specs.declared.error.PlaceError.TheVariants.{OutOfMemory};
+ghost use Rattle.image_place.specs.RangeRows.{definition_seen, one_or_none};
+ghost use Rattle.image_place.specs.Views.{placed_view};
 
-use crate::error::PlaceError;
 use crate::leading::Scene;
 use crate::patching::apply;
 use crate::ranges::Definition;
+use crate::rows::PlacedBytes;
 use crate::view::ViewSection;
 use std::alloc::{AllocError, Global};
 
-/// The bytes in memory of a definition of this section. None where one of its relocations has no value.
-pub fn placed_bytes(
+/// Appends an entry for each definition of an image, by row.
+pub fn append_entries(
+    alloc: Global,
+    scene: Scene<'_>,
+    out: &mut Vec<PlacedBytes>,
+) -> Result<(), AllocError>
+    requires ranges { HaveRanges scene.view.now (map definition_seen scene.definitions.now) }
+    ensures { OnOk result (map placed_view out.new.items ≡ map placed_view out.old.items ++ filter_map (entry_by (address_found scene.entry.exports.now scene.entry.outsides.now) (given scene.entry.addresses.now scene.entry.image) scene.entry.image scene.entry.view.now (map definition_seen scene.entry.definitions.now)) (map definition_seen scene.entry.definitions.now)) }
+{
+    for definition in scene.definitions {
+        append_entry(alloc, scene, *definition, out)?;
+    }
+    Ok(())
+}
+
+// Appends the entry of a definition, if its bytes in memory are there.
+fn append_entry(
+    alloc: Global,
+    scene: Scene<'_>,
+    definition: Definition<'_>,
+    out: &mut Vec<PlacedBytes>,
+) -> Result<(), AllocError>
+    requires home { IsHome scene.view.now (definition_seen definition) }
+    ensures { OnOk result (map placed_view out.new.items ≡ map placed_view out.old.items ++ one_or_none (entry_by (address_found scene.entry.exports.now scene.entry.outsides.now) (given scene.entry.addresses.now scene.entry.image) scene.entry.image scene.entry.view.now (map definition_seen scene.entry.definitions.now) (definition_seen definition.entry))) }
+{
+    let section = &scene.view.sections()[definition.section];
+    let Some(bytes) = placed_bytes(alloc, scene, definition, section)? else {
+        return Ok(());
+    };
+    out.push(PlacedBytes {
+        image: scene.image,
+        symbol: definition.row,
+        address: definition.address,
+        bytes,
+    })?;
+    Ok(())
+}
+
+// The bytes in memory of a definition of this section. None where one of its relocations has no value.
+fn placed_bytes(
     alloc: Global,
     scene: Scene<'_>,
     definition: Definition<'_>,
     section: &ViewSection<'_>,
-) -> Result<Option<Vec<u8>>, PlaceError>
-    ensures ok { IfOk result (λ bytes. option_map (λ v. v.items) bytes ≡ bytes_by (address_found scene.entry.exports.now scene.entry.outsides.now) (given scene.entry.addresses.now scene.entry.image) scene.entry.view.now (map definition_seen scene.entry.definitions.now) (definition_seen definition.entry) section.now) }
-    ensures err { IfErr result (λ e. e ≡ OutOfMemory) }
+) -> Result<Option<Vec<u8>>, AllocError>
+    requires range { HasRange section.now (definition_seen definition) }
+    ensures { IfOk result (λ bytes. option_map (λ v. v.items) bytes ≡ bytes_by (address_found scene.entry.exports.now scene.entry.outsides.now) (given scene.entry.addresses.now scene.entry.image) scene.entry.view.now (map definition_seen scene.entry.definitions.now) (definition_seen definition.entry) section.now) }
 {
     let mut bytes = contents_of(alloc, section, definition.symbol.address, definition.size)?;
     for relocation in section.relocations() {
-        if !apply(scene, definition, section.start(), *relocation, &mut bytes)? {
+        if !apply(scene, definition, section.start(), *relocation, &mut bytes) {
             return Ok(None);
         }
     }

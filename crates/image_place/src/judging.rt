@@ -3,7 +3,7 @@
 ghost use Rattle.std.specs.Prelude.{◌≡◌, ◌+◌, ◌<◌, ◌^◌, ◌&&◌, ◌≤◌, map, nat_le, Some};
 ghost use Rattle.std.specs.List.{list_any};
 ghost use Rattle.image_place.specs.Fixups.{fix_width};
-ghost use Rattle.image_place.specs.Leading.{fault_by, holds_it, is_far};
+ghost use Rattle.image_place.specs.Leading.{fault_by, holds_it, is_far, view_faults};
 ghost use Rattle.image_place.specs.Naming.{address_found};
 ghost use Rattle.image_place.specs.Placed.{first_fault, given, holds_field};
 ghost use Rattle.image_place.specs.RangeRows.{definition_seen};
@@ -15,8 +15,20 @@ use crate::ranges::Definition;
 use crate::values::value_of;
 use crate::view::{ViewReloc, ViewSection};
 
-/// The first refusal of the relocations of a section, which has number `k`.
-pub fn section_fault(scene: Scene<'_>, k: usize, section: &ViewSection<'_>) -> Option<PlaceFault>
+/// The first refusal of the relocations of an image.
+pub fn view_fault(scene: Scene<'_>) -> Option<PlaceFault>
+    ensures { result ≡ first_fault (view_faults (address_found scene.entry.exports.now scene.entry.outsides.now) (given scene.entry.addresses.now scene.entry.image) scene.entry.image scene.entry.view.now (map definition_seen scene.entry.definitions.now)) }
+{
+    for (k, section) in scene.view.sections().iter().enumerate() {
+        if let Some(fault) = section_fault(scene, k, section) {
+            return Some(fault);
+        }
+    }
+    None
+}
+
+// The first refusal of the relocations of a section, which has number `k`.
+fn section_fault(scene: Scene<'_>, k: usize, section: &ViewSection<'_>) -> Option<PlaceFault>
     ensures { result ≡ first_fault (map (fault_by (address_found scene.entry.exports.now scene.entry.outsides.now) (given scene.entry.addresses.now scene.entry.image) scene.entry.image scene.entry.view.now (map definition_seen scene.entry.definitions.now) k (section.now).start) (section.now).relocations) }
 {
     for relocation in section.relocations() {

@@ -1,4 +1,4 @@
-use Rattle.std.proofs.Common.{List, map, length, ap, sym, ◌∙◌, arith}
+use Rattle.std.proofs.Common.{List, ℕ, map, length, ap, sym, ◌∙◌, arith}
 use Rattle.std.proofs.lemmas.List.{drop_all}
 use Rattle.image_place.specs.Fixups.{fixed}
 use Rattle.image_place.specs.View.{ViewReloc}
@@ -7,15 +7,27 @@ use Rattle.image_place.specs.Naming.{address_found}
 use Rattle.image_place.specs.Placed.{given}
 use Rattle.image_place.specs.RangeRows.{definition_seen}
 use Rattle.image_place.proofs.ApplyingLaws.{fixed_end}
+use Rattle.image_place.proofs.WholeLaws.{range_long}
 use Rattle.image_place.proofs.filling.placed_bytes.Goals as goal
 
-pub returns-clause-ok : goal.returns-clause-ok
-returns-clause-ok c =
+pub loop-relocation-init : goal.loop-relocation-init
+loop-relocation-init c =
     let F = address_found c.args.scene.exports.now c.args.scene.outsides.now in
     let at = given c.args.scene.addresses.now c.args.scene.image in
     let ds = map definition_seen c.args.scene.definitions.now in
-    let p = at c.args.definition.row in
+    let d = definition_seen c.args.definition in
+    record {
+      rest = ap (λ (xs : List ℕ). fixed xs d.address (held_by F at c.args.scene.view.now ds d c.args.section.now.start c.args.section.now.relocations)) (sym c.in_ok-bytes.ensures);
+      long = omega (arith, ap length c.in_ok-bytes.ensures, range_long c.args.section.now d c.requires.range);
+    }
+
+pub returns : goal.returns
+returns c =
+    let F = address_found c.args.scene.exports.now c.args.scene.outsides.now in
+    let at = given c.args.scene.addresses.now c.args.scene.image in
+    let ds = map definition_seen c.args.scene.definitions.now in
+    let p = c.args.definition.address in
     sym
-    (c.loop-relocation.invariant
+    (c.loop-relocation.invariant.rest
     ∙ ap (λ (rs : List ViewReloc). fixed c.loop-relocation.bytes.items p (held_by F at c.args.scene.view.now ds (definition_seen c.args.definition) c.args.section.now.start rs)) (drop_all c.loop-relocation.relocation-index c.args.section.now.relocations (omega (arith, ap length c.relocations-relocation-items.ensures)))
     ∙ fixed_end c.loop-relocation.bytes.items p)

@@ -1,4 +1,4 @@
-use Rattle.std.proofs.Common.{◌≡◌, map, drop}
+use Rattle.std.proofs.Common.{◌≡◌, ◌≤◌, length, map, drop}
 use Rattle.image_place.specs.Fixups.{fixed}
 use Rattle.image_place.specs.Applying.{bytes_by, held_by}
 use Rattle.image_place.specs.Naming.{address_found}
@@ -12,4 +12,7 @@ invariant-loop-relocation l =
     let at = given l.scene.addresses.now l.scene.image in
     let ds = map definition_seen l.scene.definitions.now in
     let d = definition_seen l.definition in
-    bytes_by F at l.scene.view.now ds d l.section ≡ fixed l.bytes.items (at d.row) (held_by F at l.scene.view.now ds d l.section.start (drop l.relocation-index l.section.relocations))
+    record {
+      rest : bytes_by F at l.scene.view.now ds d l.section ≡ fixed l.bytes.items d.address (held_by F at l.scene.view.now ds d l.section.start (drop l.relocation-index l.section.relocations));
+      long : l.definition.size ≤ length l.bytes.items;
+    }
