@@ -1,1 +1,5 @@
-
+pub mod Numbers
+pub mod Names
+pub mod Runs
+pub mod States
+pub mod Valid

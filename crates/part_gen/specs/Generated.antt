@@ -23,6 +23,9 @@ use Rattle.part_gen.specs.Draws.{draw}
 abbrev pub target_triple : Triple
 target_triple = record { architecture = X86_64; binary_format = Elf; system = system.Unknown; version = None; environment = environment.Unknown }
 
+abbrev pub elf_target : Target
+elf_target = record { triple = target_triple; flags = [] }
+
 -- a signature without values, of the target's convention
 abbrev pub default_signature : SignatureData
 default_signature = record { params = []; returns = []; call_conv = default_call_conv target_triple }
@@ -74,4 +77,4 @@ calls_of seed n = flat_map declarations_at (range_with_len 0 n) ++ flat_map (def
 
 -- the part of n functions and n data objects that a seed gives: the file `gen.o`, without section options
 unfoldable pub generated : ℕ → ℕ → PartData
-generated seed n = record { settings = plain_settings (codes "gen.o") usual_texts; target = record { triple = target_triple; flags = [] }; calls = calls_of seed n }
+generated seed n = record { settings = plain_settings (codes "gen.o") usual_texts; target = elf_target; calls = calls_of seed n }

@@ -1,11 +1,10 @@
 //! The part that a seed and a count stand for. This project's choice: as many functions as data objects, which refer to
 //! one another by draws.
 
-ghost use Rattle.std.specs.Prelude.{◌≡◌, ◌<◌, ◌≤◌, ◌+◌, ◌++◌, ◌∷◌, [], map, flat_map, IfOk, OnOk};
+ghost use Rattle.std.specs.Prelude.{◌≡◌, ◌<◌, ◌≤◌, ◌+◌, ◌*◌, ◌++◌, ℕ, map, flat_map, IfOk, OnOk};
 ghost use Rattle.std.specs.List.{range_with_len};
-ghost use Rattle.std.specs.Vec.{vec_len};
 ghost use Rattle.cranelift_object.specs.Command.{command_view};
-ghost use Rattle.part_gen.specs.Draws.{next, number_after};
+ghost use Rattle.part_gen.specs.Draws.{number_after};
 ghost use Rattle.part_gen.specs.Generated.{generated, target_triple, function_declared, data_declared, declarations_at, function_defined, data_defined, definitions_at};
 
 use crate::draws::Draws;
@@ -51,11 +50,19 @@ fn target_triple() -> Triple
 fn push_declarations(commands: &mut Vec<Command>, n: u32) -> Result<(), AllocError>
     ensures { OnOk result (map command_view commands.new.items ≡ map command_view commands.old.items ++ flat_map declarations_at (range_with_len 0 n)) }
 {
-    let alloc = *commands.allocator();
     for k in 0..n {
-        commands.push(function_declaration(alloc, k)?)?;
-        commands.push(data_declaration(alloc, k)?)?;
+        push_declarations_of(commands, k)?;
     }
+    Ok(())
+}
+
+// The declarations of number `k`.
+fn push_declarations_of(commands: &mut Vec<Command>, k: u32) -> Result<(), AllocError>
+    ensures { OnOk result (map command_view commands.new.items ≡ map command_view commands.old.items ++ declarations_at k) }
+{
+    let alloc = *commands.allocator();
+    commands.push(function_declaration(alloc, k)?)?;
+    commands.push(data_declaration(alloc, k)?)?;
     Ok(())
 }
 
@@ -87,16 +94,31 @@ fn push_definitions(commands: &mut Vec<Command>, seed: u32, n: u32) -> Result<()
     requires { 0 < n }
     ensures { OnOk result (map command_view commands.new.items ≡ map command_view commands.old.items ++ flat_map (definitions_at seed n) (range_with_len 0 n)) }
 {
-    let alloc = *commands.allocator();
     let mut draws = Draws::new(seed);
     for k in 0..n {
-        let size = 16 + draws.draw() % 16;
-        let object = draws.draw() % n;
-        commands.push(function_definition(alloc, k, size, object)?)?;
-        let byte = draws.draw() % 256;
-        let function = draws.draw() % n;
-        commands.push(data_definition(alloc, k, byte as u8, function)?)?;
+        push_definitions_of(commands, &mut draws, n, k)?;
     }
+    Ok(())
+}
+
+// The definitions of number `k` among `n`, by the next four draws.
+fn push_definitions_of(
+    commands: &mut Vec<Command>,
+    draws: &mut Draws,
+    n: u32,
+    k: u32,
+) -> Result<(), AllocError>
+    requires { 0 < n }
+    ensures pushed { (seed : ℕ) → draws.old ≡ number_after seed (4 * k) → OnOk result (map command_view commands.new.items ≡ map command_view commands.old.items ++ definitions_at seed n k) }
+    ensures drawn { (seed : ℕ) → draws.old ≡ number_after seed (4 * k) → OnOk result (draws.new ≡ number_after seed (4 * k + 4)) }
+{
+    let alloc = *commands.allocator();
+    let size = 16 + draws.draw() % 16;
+    let object = draws.draw() % n;
+    commands.push(function_definition(alloc, k, size, object)?)?;
+    let byte = draws.draw() % 256;
+    let function = draws.draw() % n;
+    commands.push(data_definition(alloc, k, byte as u8, function)?)?;
     Ok(())
 }
 

@@ -1,0 +1,29 @@
+-- Calls by number, and draws in a row.
+use Rattle.std.proofs.Common.{◌≡◌, ℕ, zero, suc, ◌+◌, ◌*◌, ◌-◌, ◌<◌, ◌≤◌, ◌/◌, List, [], ◌∷◌, ◌++◌, refl, ap, sym, ◌∙◌, arith, add-one, append_assoc, append-nil}
+use Rattle.std.specs.List.{range_with_len, flat_map}
+use Rattle.cranelift_module.specs.Call.{Call}
+use Rattle.part_gen.specs.Draws.{next, number_after}
+
+numbers_next : (k n : ℕ) → k < n → range_with_len k (n - k) ≡ k ∷ range_with_len (k + 1) (n - (k + 1))
+numbers_next k n h =
+    let more : n - k ≡ suc (n - (k + 1)) = omega arith in
+    rw more refl
+
+-- one more number's calls are pushed
+pub pushed_next : (f : ℕ → List Call) (k n : ℕ) (before now all : List Call) → k < n → before ++ flat_map f (range_with_len k (n - k)) ≡ all → now ≡ before ++ f k → now ++ flat_map f (range_with_len (k + 1) (n - (k + 1))) ≡ all
+pushed_next f k n before now all h left e =
+    ap (λ calls. calls ++ flat_map f (range_with_len (k + 1) (n - (k + 1)))) e
+    ∙ append_assoc before (f k) (flat_map f (range_with_len (k + 1) (n - (k + 1))))
+    ∙ ap (λ numbers. before ++ flat_map f numbers) (sym (numbers_next k n h))
+    ∙ left
+
+-- behind the last number no calls are left
+pub pushed_all : (f : ℕ → List Call) (k n : ℕ) (now all : List Call) → n ≤ k → now ++ flat_map f (range_with_len k (n - k)) ≡ all → now ≡ all
+pushed_all f k n now all h left =
+    let none : n - k ≡ 0 = omega arith in
+    sym (append-nil now) ∙ (rw none at left)
+
+-- one more draw
+pub number_next : (seed count : ℕ) → number_after seed (count + 1) ≡ next (number_after seed count)
+unfolding number_after
+number_next seed count = rw add-one refl
