@@ -1,7 +1,7 @@
 //! The part that a seed and a count stand for. This project's choice: as many functions as data objects, which refer to
 //! one another by draws.
 
-ghost use Rattle.std.specs.Prelude.{◌≡◌, ◌<◌, ◌≤◌, ◌+◌, ◌*◌, ◌++◌, ℕ, map, flat_map, IfOk, OnOk};
+ghost use Rattle.std.specs.Prelude.{◌≡◌, ◌<◌, ◌≤◌, ◌+◌, ◌*◌, ◌++◌, ℕ, length, map, flat_map, IfOk, OnOk};
 ghost use Rattle.std.specs.List.{range_with_len};
 ghost use Rattle.cranelift_object.specs.Command.{command_view};
 ghost use Rattle.part_gen.specs.Draws.{number_after};
@@ -22,7 +22,8 @@ use std::alloc::{AllocError, Global};
 pub fn gen_part(alloc: Global, seed: u32, n: u32) -> Result<CommandPart, AllocError>
     requires least { 0 < n }
     requires most { n ≤ 100000 }
-    ensures { IfOk result (λ part. part ≡ generated seed n) }
+    ensures stated { IfOk result (λ part. part ≡ generated seed n) }
+    ensures count { IfOk result (λ part. length part.calls ≡ 4 * n) }
 {
     let mut commands = Vec::with_capacity(alloc, n as usize * 4)?;
     push_declarations(&mut commands, n)?;
