@@ -1,8 +1,9 @@
 -- A generated part reaches no limit of its format.
-use Rattle.std.proofs.Common.{◌≡◌, ℕ, zero, suc, ◌+◌, ◌*◌, ◌%◌, ◌^◌, ◌<◌, ◌≤◌, ◌||◌, List, [], ◌∷◌, ◌++◌, Bool, true, false, cond, Option, Some, None, refl, ap, sym, ◌∙◌, subst, arith, map, filter, length, append-nil, length-append, length-replicate, length-map, replicate, decimal}
+use Rattle.std.proofs.Common.{◌≡◌, ℕ, zero, suc, ◌+◌, ◌*◌, ◌%◌, ◌^◌, ◌<◌, ◌≤◌, ◌||◌, List, [], ◌∷◌, ◌++◌, Bool, true, false, cond, Option, Some, None, refl, ap, sym, ◌∙◌, subst, arith, map, filter, length, append-nil, length-append, replicate, decimal}
 use Rattle.std.specs.Prelude.{codes, sum_by, count_by, nat_le}
 use Rattle.std.specs.Option.{option_or}
 use Rattle.std.specs.List.{range_with_len, list_any, flat_map, enumerate_from}
+use Rattle.std.proofs.lemmas.List.{length-replicate, length-map}
 use Rattle.std.proofs.lemmas.Bool.Decides.{nat_tests}
 use Rattle.std.proofs.lemmas.Fmt.{length-decimal-le}
 use Rattle.std.proofs.lemmas.List.Sums.{sum_by-cons, count_by-le-length}
@@ -87,6 +88,10 @@ two_sections sections a b e short_a short_b =
     let room_b = name_room b in
     rw e (omega arith, omega (arith, sum))
 
+all_classes : (seed n : ℕ) → map (section_class settings (defined seed n n)) (defined seed n n).definitions ≡ classes (range_with_len 0 n)
+unfolding defined
+all_classes seed n = classes_are seed n 0 n (omega arith)
+
 sections_left : (seed n : ℕ) → 0 < n
     → sections_of settings (defined seed n n) (placed settings (defined seed n n)) ≡ sections_from settings (defined seed n n) 0 (text_class ∷ address_class ∷ []) (placed settings (defined seed n n))
 unfolding placed
@@ -96,10 +101,7 @@ sections_left seed n h =
     sections_whole settings s s.definitions
     ∙ ap (λ (cs : List Class). sections_from settings s 0 (sections_used cs) (placed_of settings s s.definitions)) (all_classes seed n)
     ∙ ap (λ (cs : List Class). sections_from settings s 0 cs (placed_of settings s s.definitions)) (ap (λ k. sections_used (classes (range_with_len 0 k))) (sym some) ∙ used_are (n - 1))
-  where
-  all_classes : (seed n : ℕ) → map (section_class settings (defined seed n n)) (defined seed n n).definitions ≡ classes (range_with_len 0 n)
-  unfolding defined
-  all_classes seed n = classes_are seed n 0 n (omega arith)
+
 
 -- -- contents
 
@@ -120,12 +122,13 @@ no_extras_among : (s : LinkState) (seed n a count : ℕ) → filter is_extra (ta
 no_extras_among s seed n a zero = refl
 no_extras_among s seed n a (suc count) = no_extras_among s seed n (a + 1) count
 
+all_targets : (seed n : ℕ) → filter is_extra (targets settings (defined seed n n) (defined seed n n).definitions) ≡ []
+unfolding defined
+all_targets seed n = no_extras_among (defined seed n n) seed n 0 n
+
 no_extras : (seed n : ℕ) → extras settings (defined seed n n) ≡ []
 unfolding extras moments
-no_extras seed n = rw (all_targets seed n) refl where
-  all_targets : (seed n : ℕ) → filter is_extra (targets settings (defined seed n n) (defined seed n n).definitions) ≡ []
-  unfolding defined
-  all_targets seed n = no_extras_among (defined seed n n) seed n 0 n
+no_extras seed n = rw (all_targets seed n) refl
 
 identifiers_among : List ℕ → List FuncOrDataId
 identifiers_among ks = flat_map (λ k. Func k ∷ Data k ∷ []) ks
@@ -174,12 +177,13 @@ symbol_names seed n ps most =
     let all = ap (sum_by symbol_name_size) (symbols_left seed n ps) ∙ sum_by-cons symbol_name_size (file_symbol (codes "gen.o")) (names ++ []) ∙ ap (λ (symbols : List SymbolData). 6 + sum_by symbol_name_size symbols) (append-nil names) in
     omega (arith, all, name_sizes seed n 0 n ps most (omega arith))
 
+all_asked : (seed n : ℕ) → sum_by (λ (d : Definition). room_of (defined seed n n) d + align_of (defined seed n n) d) (definitions_among seed n (range_with_len 0 n)) ≤ 100 * n
+    → sum_by (λ (d : Definition). room_of (defined seed n n) d + align_of (defined seed n n) d) (defined seed n n).definitions ≤ 100 * n
+unfolding defined
+all_asked seed n h = h
+
 contents_asked : (seed n : ℕ) → sum_by (λ (d : Definition). room_of (defined seed n n) d + align_of (defined seed n n) d) (defined seed n n).definitions ≤ 100 * n
-contents_asked seed n = all_asked seed n (content_room seed n 0 n) where
-  all_asked : (seed n : ℕ) → sum_by (λ (d : Definition). room_of (defined seed n n) d + align_of (defined seed n n) d) (definitions_among seed n (range_with_len 0 n)) ≤ 100 * n
-      → sum_by (λ (d : Definition). room_of (defined seed n n) d + align_of (defined seed n n) d) (defined seed n n).definitions ≤ 100 * n
-  unfolding defined
-  all_asked seed n h = h
+contents_asked seed n = all_asked seed n (content_room seed n 0 n)
 
 object_within : (seed n : ℕ) → 0 < n → n ≤ 100000 → limit_cause (plain_counts (object_of settings (defined seed n n))) ≡ None
 unfolding object_of

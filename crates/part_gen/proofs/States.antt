@@ -1,5 +1,6 @@
 -- The link states that generated calls leave, number by number.
-use Rattle.std.proofs.Common.{◌≡◌, ℕ, zero, suc, ◌+◌, ◌*◌, ◌%◌, ◌^◌, ◌<◌, ◌≤◌, ◌==◌, ◌||◌, ◌&&◌, pos, negsuc, not, List, [], ◌∷◌, ◌++◌, Bool, true, false, Some, None, refl, ap, sym, ◌∙◌, subst, arith, bytes_eq, map, cond, length, replicate, slice_get, nat_lt, append_assoc, length-replicate}
+use Rattle.std.proofs.Common.{◌≡◌, ℕ, zero, suc, ◌+◌, ◌*◌, ◌%◌, ◌^◌, ◌<◌, ◌≤◌, ◌==◌, ◌||◌, ◌&&◌, pos, negsuc, not, List, [], ◌∷◌, ◌++◌, Bool, true, false, Some, None, refl, ap, sym, ◌∙◌, subst, arith, bytes_eq, map, cond, length, replicate, slice_get, nat_lt, append_assoc, add-one}
+use Rattle.std.proofs.lemmas.List.{length-replicate}
 use Rattle.std.specs.List.{range_with_len, list_any, position_from, flat_map, find, enumerate_from}
 use Rattle.std.proofs.lemmas.List.Folds.{list_any-append}
 use Rattle.std.proofs.lemmas.List.Concat.{flat_map-append}
@@ -42,11 +43,11 @@ abbrev pub identifiers : ℕ → List FuncOrDataId
 identifiers n = flat_map (λ k. Func k ∷ Data k ∷ []) (range_with_len 0 n)
 
 -- the first n numbers are declared
-pub declared : ℕ → LinkState
+unfoldable pub declared : ℕ → LinkState
 declared n = record { target = elf_target; functions = function_rows n; objects = data_rows n; created = identifiers n; definitions = [] }
 
 -- and the function of the next number
-pub half_declared : ℕ → LinkState
+unfoldable pub half_declared : ℕ → LinkState
 half_declared n = record { target = elf_target; functions = function_rows (n + 1); objects = data_rows n; created = identifiers n ++ Func n ∷ []; definitions = [] }
 
 no_such_function : (k a n j : ℕ) → a + n ≤ k → k < 2 ^ 64 → position_from (is_function_named (function_name k)) j (map function_row (range_with_len a n)) ≡ None
@@ -77,19 +78,20 @@ function_step k h =
       made = rw (rows, any-none (is_function_named (function_name k)) (function_rows k) none, length-map-range_with_len function_row 0 k) refl;
     }
 
-pub numbers_more : (a n : ℕ) → range_with_len a (n + 1) ≡ range_with_len a n ++ (a + n) ∷ []
+pub numbers_more : (a n : ℕ) → range_with_len a (suc n) ≡ range_with_len a n ++ (a + n) ∷ []
 numbers_more a zero = let e : a + 0 ≡ a = omega arith in rw e refl
 numbers_more a (suc n) =
     let e : a + suc n ≡ a + 1 + n = omega arith in
-    rw (numbers_more (a + 1) n, e) refl
+    ap (λ ks. a ∷ ks) (numbers_more (a + 1) n) ∙ (rw e refl)
 
 -- one more number's pair
 pairs_more : {A : Type 0} (f g : ℕ → A) (n : ℕ) → (flat_map (λ k. f k ∷ g k ∷ []) (range_with_len 0 n) ++ f n ∷ []) ++ g n ∷ [] ≡ flat_map (λ k. f k ∷ g k ∷ []) (range_with_len 0 (n + 1))
 pairs_more f g n =
     let e : 0 + n ≡ n = omega arith in
+    let more : n + 1 ≡ suc n = omega arith in
     append_assoc (flat_map (λ k. f k ∷ g k ∷ []) (range_with_len 0 n)) (f n ∷ []) (g n ∷ [])
     ∙ sym (flat_map-append (λ k. f k ∷ g k ∷ []) (range_with_len 0 n) (n ∷ []))
-    ∙ ap (flat_map (λ k. f k ∷ g k ∷ [])) (sym (numbers_more 0 n ∙ ap (λ k. range_with_len 0 n ++ k ∷ []) e))
+    ∙ ap (flat_map (λ k. f k ∷ g k ∷ [])) (sym (ap (range_with_len 0) more ∙ numbers_more 0 n ∙ ap (λ k. range_with_len 0 n ++ k ∷ []) e))
 
 pub data_step : (k : ℕ) → k < 2 ^ 64 → IsStep (half_declared k) (data_declared k) (declared (k + 1))
 unfolding refusal step declared half_declared
@@ -141,11 +143,11 @@ abbrev pub definitions_among : ℕ → ℕ → List ℕ → List Definition
 definitions_among seed n ks = flat_map (λ k. first_of_number seed n k ∷ second_of_number seed n k ∷ []) ks
 
 -- all n numbers are declared, and the first k of them are defined
-pub defined : ℕ → ℕ → ℕ → LinkState
+unfoldable pub defined : ℕ → ℕ → ℕ → LinkState
 defined seed n k = record { target = elf_target; functions = function_rows n; objects = data_rows n; created = identifiers n; definitions = definitions_among seed n (range_with_len 0 k) }
 
 -- and the function of the next number
-pub half_defined : ℕ → ℕ → ℕ → LinkState
+unfoldable pub half_defined : ℕ → ℕ → ℕ → LinkState
 half_defined seed n k =
     record { target = elf_target; functions = function_rows n; objects = data_rows n; created = identifiers n; definitions = definitions_among seed n (range_with_len 0 k) ++ first_of_number seed n k ∷ [] }
 
@@ -177,11 +179,11 @@ data_undefined seed n k a (suc count) h =
 
 reloc_fits : (size object : ℕ) → 16 ≤ size → bad_reloc elf_target (bytes (replicate size 0x90)) (distance_to object ∷ []) ≡ None
 reloc_fits size object h =
-    let fits : nat_lt (length (replicate size 0x90)) 5 ≡ false = rw length-replicate (grind (arith, nat_tests)) in
+    let fits : nat_lt (length {A = ℕ} (replicate size 0x90)) 5 ≡ false = rw length-replicate (grind (arith, nat_tests)) in
     rw fits refl
 
 pub function_defined_step : (seed n k : ℕ) → k < n → IsStep (defined seed n k) (function_defined k (16 + draw seed (4 * k) % 16) (draw seed (4 * k + 1) % n)) (half_defined seed n k)
-unfolding refusal step defined half_defined
+unfolding refusal step defined half_defined lib.Count.ones
 function_defined_step seed n k h =
     record {
       free = rw (row_there function_row n k h, function_undefined seed n k 0 k (omega arith), reloc_fits (16 + draw seed (4 * k) % 16) (draw seed (4 * k + 1) % n) (omega arith)) refl;
@@ -189,9 +191,10 @@ function_defined_step seed n k h =
     }
 
 pub data_defined_step : (seed n k : ℕ) → k < n → IsStep (half_defined seed n k) (data_defined k (draw seed (4 * k + 2) % 256) (draw seed (4 * k + 3) % n)) (defined seed n (k + 1))
-unfolding refusal step defined half_defined
+unfolding refusal step defined half_defined lib.Count.ones
 data_defined_step seed n k h =
-    let before = list_any-append (λ (d : Definition). is_same_identifier (Data k) d.identifier) (definitions_among seed n (range_with_len 0 k)) (first_of_number seed n k ∷ []) ∙ (rw (data_undefined seed n k 0 k (omega arith)) refl) in
+    let before : list_any (λ (d : Definition). is_same_identifier (Data k) d.identifier) (definitions_among seed n (range_with_len 0 k) ++ first_of_number seed n k ∷ []) ≡ false =
+        rw (list_any-append (λ (d : Definition). is_same_identifier (Data k) d.identifier) (definitions_among seed n (range_with_len 0 k)) (first_of_number seed n k ∷ []), data_undefined seed n k 0 k (omega arith)) refl in
     record {
       free = rw (row_there data_row n k h, before) refl;
       made = rw (row_there data_row n k h, pairs_more (first_of_number seed n) (second_of_number seed n) k) refl;

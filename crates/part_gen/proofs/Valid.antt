@@ -65,19 +65,19 @@ start_free = refl
 
 -- -- the end
 
+here_or_later : (k a : ℕ) → a ≤ k → (later : Bool) → (a < k → later ≡ true) → (k == a || later) ≡ true
+here_or_later k a low later h = by_test (k == a) refl where
+  by_test : (b : Bool) → (k == a) ≡ b → (b || later) ≡ true
+  by_test true e = refl
+  by_test false e = h (grind (arith, nat_tests))
+
 function_is_defined : (seed n k a count : ℕ) → a ≤ k → k < a + count → list_any (λ (d : Definition). is_same_identifier (Func k) d.identifier) (definitions_among seed n (range_with_len a count)) ≡ true
 function_is_defined seed n k a zero low high = absurd (omega arith)
-function_is_defined seed n k a (suc count) low high = here (k == a) refl where
-  here : (b : Bool) → (k == a) ≡ b → (b || list_any (λ (d : Definition). is_same_identifier (Func k) d.identifier) (definitions_among seed n (range_with_len (a + 1) count))) ≡ true
-  here true e = refl
-  here false e = let apart : a < k = grind (arith, nat_tests) in function_is_defined seed n k (a + 1) count (omega arith) (omega arith)
+function_is_defined seed n k a (suc count) low high = here_or_later k a low _ (λ past. function_is_defined seed n k (a + 1) count (omega arith) (omega arith))
 
 data_is_defined : (seed n k a count : ℕ) → a ≤ k → k < a + count → list_any (λ (d : Definition). is_same_identifier (Data k) d.identifier) (definitions_among seed n (range_with_len a count)) ≡ true
 data_is_defined seed n k a zero low high = absurd (omega arith)
-data_is_defined seed n k a (suc count) low high = here (k == a) refl where
-  here : (b : Bool) → (k == a) ≡ b → (b || list_any (λ (d : Definition). is_same_identifier (Data k) d.identifier) (definitions_among seed n (range_with_len (a + 1) count))) ≡ true
-  here true e = refl
-  here false e = let apart : a < k = grind (arith, nat_tests) in data_is_defined seed n k (a + 1) count (omega arith) (omega arith)
+data_is_defined seed n k a (suc count) low high = here_or_later k a low _ (λ past. data_is_defined seed n k (a + 1) count (omega arith) (omega arith))
 
 functions_have : (seed n a count : ℕ) → a + count ≤ n → first_cause (map (missing_function (defined seed n n)) (enumerate_from a (map function_row (range_with_len a count)))) ≡ None
 unfolding defined
