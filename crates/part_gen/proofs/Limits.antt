@@ -1,8 +1,7 @@
 -- A generated part reaches no limit of its format.
-use Rattle.std.proofs.Common.{◌≡◌, ℕ, zero, suc, ◌+◌, ◌*◌, ◌%◌, ◌^◌, ◌<◌, ◌≤◌, ◌||◌, List, [], ◌∷◌, ◌++◌, Bool, true, false, cond, Option, Some, None, refl, ap, sym, ◌∙◌, subst, arith, map, filter, length, append-nil, length-append, replicate, decimal}
+use Rattle.std.proofs.Common.{◌≡◌, ℕ, zero, suc, ◌+◌, ◌-◌, ◌*◌, ◌%◌, ◌^◌, ◌<◌, ◌≤◌, List, [], ◌∷◌, ◌++◌, Bool, true, false, cond, None, refl, ap, sym, ◌∙◌, arith, map, filter, length, append-nil, length-append, replicate, decimal}
 use Rattle.std.specs.Prelude.{codes, sum_by, count_by, nat_le}
-use Rattle.std.specs.Option.{option_or}
-use Rattle.std.specs.List.{range_with_len, list_any, flat_map, enumerate_from}
+use Rattle.std.specs.List.{range_with_len, list_any, flat_map}
 use Rattle.std.proofs.lemmas.List.{length-replicate, length-map}
 use Rattle.std.proofs.lemmas.Bool.Decides.{nat_tests}
 use Rattle.std.proofs.lemmas.Fmt.{length-decimal-le}
@@ -61,7 +60,8 @@ classes_are seed n a (suc count) h = rw (row_there data_row n a (omega arith), c
 used_more : (cs : List Class) → sections_used cs ≡ text_class ∷ address_class ∷ [] → sections_used ((cs ++ text_class ∷ []) ++ address_class ∷ []) ≡ text_class ∷ address_class ∷ []
 used_more cs e =
     let text : list_any (share text_class) cs ≡ true = sym (any_used text_class cs) ∙ (rw e refl) in
-    let address : list_any (share address_class) (cs ++ text_class ∷ []) ≡ true = list_any-append (share address_class) cs (text_class ∷ []) ∙ (rw (sym (any_used address_class cs) ∙ (rw e refl)) refl) in
+    let address_before : list_any (share address_class) cs ≡ true = sym (any_used address_class cs) ∙ (rw e refl) in
+    let address : list_any (share address_class) (cs ++ text_class ∷ []) ≡ true = rw (list_any-append (share address_class) cs (text_class ∷ []), address_before) refl in
     used-end (cs ++ text_class ∷ []) address_class ∙ (rw (address, used-end cs text_class, text, e) refl)
 
 used_are : (k : ℕ) → sections_used (classes (range_with_len 0 (k + 1))) ≡ text_class ∷ address_class ∷ []
@@ -83,7 +83,7 @@ two_sections : (sections : List SectionData) (a b : SectionData) → sections �
 two_sections sections a b e short_a short_b =
     let counted : count_by has_relocations (a ∷ b ∷ []) ≤ 2 = count_by-le-length has_relocations (a ∷ b ∷ []) in
     let sum : sum_by section_name_size (a ∷ b ∷ []) ≡ section_name_size a + (section_name_size b + 0) =
-        sum_by-cons section_name_size a (b ∷ []) ∙ ap (λ n. section_name_size a + n) (sum_by-cons section_name_size b []) in
+    sum_by-cons section_name_size a (b ∷ []) ∙ ap (λ n. section_name_size a + n) (sum_by-cons section_name_size b []) in
     let room_a = name_room a in
     let room_b = name_room b in
     rw e (omega arith, omega (arith, sum))
@@ -102,7 +102,6 @@ sections_left seed n h =
     ∙ ap (λ (cs : List Class). sections_from settings s 0 (sections_used cs) (placed_of settings s s.definitions)) (all_classes seed n)
     ∙ ap (λ (cs : List Class). sections_from settings s 0 cs (placed_of settings s s.definitions)) (ap (λ k. sections_used (classes (range_with_len 0 k))) (sym some) ∙ used_are (n - 1))
 
-
 -- -- contents
 
 content_room : (seed n a count : ℕ) → sum_by (λ (d : Definition). room_of (defined seed n n) d + align_of (defined seed n n) d) (definitions_among seed n (range_with_len a count)) ≤ 100 * count
@@ -111,8 +110,10 @@ content_room seed n a zero = omega arith
 content_room seed n a (suc count) =
     let room : Definition → ℕ = λ (d : Definition). room_of (defined seed n n) d + align_of (defined seed n n) d in
     let rest : List Definition = definitions_among seed n (range_with_len (a + 1) count) in
-    let both = sum_by-cons room (first_of_number seed n a) (second_of_number seed n a ∷ rest) ∙ ap (λ m. room (first_of_number seed n a) + m) (sum_by-cons room (second_of_number seed n a) rest) in
-    let bytes = length-replicate (16 + draw seed (4 * a) % 16) 0x90 in
+    let both : sum_by room (first_of_number seed n a ∷ second_of_number seed n a ∷ rest) ≡ room (first_of_number seed n a) + (room (second_of_number seed n a) + sum_by room rest) = sum_by-cons room (first_of_number seed n a) (second_of_number seed n a ∷ rest) ∙ ap (λ m. room (first_of_number seed n a) + m) (sum_by-cons room (second_of_number seed n a) rest) in
+    let bytes : length {A = ℕ} (replicate (16 + draw seed (4 * a) % 16) 0x90) ≡ 16 + draw seed (4 * a) % 16 = length-replicate (16 + draw seed (4 * a) % 16) 0x90 in
+    let first_room : room (first_of_number seed n a) ≡ length {A = ℕ} (replicate (16 + draw seed (4 * a) % 16) 0x90) + 16 = refl in
+    let second_room : room (second_of_number seed n a) ≡ 24 = refl in
     let later = content_room seed n (a + 1) count in
     omega arith
 

@@ -1,5 +1,5 @@
 -- Runs of accepted calls, by number.
-use Rattle.std.proofs.Common.{◌≡◌, ℕ, zero, suc, ◌+◌, ◌<◌, ◌≤◌, List, [], ◌∷◌, ◌++◌, Option, None, refl, ap, sym, ◌∙◌, subst, arith}
+use Rattle.std.proofs.Common.{◌≡◌, ℕ, zero, suc, ◌+◌, ◌<◌, ◌≤◌, List, [], ◌∷◌, ◌++◌, None, refl, subst, arith}
 use Rattle.std.specs.List.{range_with_len, flat_map}
 use Rattle.cranelift_module.specs.Call.{Call}
 use Rattle.cranelift_module.specs.LinkState.{LinkState, step, steps}

@@ -1,19 +1,18 @@
 -- The link states that generated calls leave, number by number.
-use Rattle.std.proofs.Common.{◌≡◌, ℕ, zero, suc, ◌+◌, ◌*◌, ◌%◌, ◌^◌, ◌<◌, ◌≤◌, ◌==◌, ◌||◌, ◌&&◌, pos, negsuc, not, List, [], ◌∷◌, ◌++◌, Bool, true, false, Some, None, refl, ap, sym, ◌∙◌, subst, arith, bytes_eq, map, cond, length, replicate, slice_get, nat_lt, append_assoc, add-one}
+use Rattle.std.proofs.Common.{◌≡◌, ℕ, zero, suc, ◌+◌, ◌*◌, ◌%◌, ◌^◌, ◌<◌, ◌≤◌, ◌==◌, pos, List, [], ◌∷◌, ◌++◌, false, Some, None, refl, ap, sym, ◌∙◌, arith, map, length, replicate, slice_get, nat_lt, append_assoc}
 use Rattle.std.proofs.lemmas.List.{length-replicate}
-use Rattle.std.specs.List.{range_with_len, list_any, position_from, flat_map, find, enumerate_from}
+use Rattle.std.specs.List.{range_with_len, list_any, position_from, flat_map}
 use Rattle.std.proofs.lemmas.List.Folds.{list_any-append}
 use Rattle.std.proofs.lemmas.List.Concat.{flat_map-append}
 use Rattle.std.proofs.lemmas.List.FromFn.{length-map-range_with_len, map-range_with_len_more}
 use Rattle.std.proofs.lemmas.Bool.Decides.{nat_tests}
-use Rattle.ir_core.specs.Target.{Target}
 use Rattle.ir_core.specs.declared.reloc.Reloc.TheVariants.{Abs8}
 use Rattle.cranelift_module.specs.declared.linkage.Linkage.TheVariants.{Export, Local}
 use Rattle.cranelift_module.specs.declared.identifiers.FuncOrDataId.{FuncOrDataId}
 use Rattle.cranelift_module.specs.declared.identifiers.FuncOrDataId.TheVariants.{Func, Data}
 use Rattle.cranelift_module.specs.declared.reloc.ModuleReloc.{ModuleReloc}
 use Rattle.cranelift_module.specs.declared.reloc.ModuleRelocTarget.TheVariants.{User}
-use Rattle.cranelift_module.specs.Call.{Call, bytes}
+use Rattle.cranelift_module.specs.Call.{bytes}
 use Rattle.cranelift_module.specs.Rows.{FunctionRow, DataRow}
 use Rattle.cranelift_module.specs.Definitions.{Definition}
 use Rattle.cranelift_module.specs.LinkState.{LinkState, step, is_function_named, is_data_named, raised_function, raised_data}
@@ -85,7 +84,7 @@ numbers_more a (suc n) =
     ap (λ ks. a ∷ ks) (numbers_more (a + 1) n) ∙ (rw e refl)
 
 -- one more number's pair
-pairs_more : {A : Type 0} (f g : ℕ → A) (n : ℕ) → (flat_map (λ k. f k ∷ g k ∷ []) (range_with_len 0 n) ++ f n ∷ []) ++ g n ∷ [] ≡ flat_map (λ k. f k ∷ g k ∷ []) (range_with_len 0 (n + 1))
+pub pairs_more : {A : Type 0} (f g : ℕ → A) (n : ℕ) → (flat_map (λ k. f k ∷ g k ∷ []) (range_with_len 0 n) ++ f n ∷ []) ++ g n ∷ [] ≡ flat_map (λ k. f k ∷ g k ∷ []) (range_with_len 0 (n + 1))
 pairs_more f g n =
     let e : 0 + n ≡ n = omega arith in
     let more : n + 1 ≡ suc n = omega arith in
@@ -194,7 +193,7 @@ pub data_defined_step : (seed n k : ℕ) → k < n → IsStep (half_defined seed
 unfolding refusal step defined half_defined lib.Count.ones
 data_defined_step seed n k h =
     let before : list_any (λ (d : Definition). is_same_identifier (Data k) d.identifier) (definitions_among seed n (range_with_len 0 k) ++ first_of_number seed n k ∷ []) ≡ false =
-        rw (list_any-append (λ (d : Definition). is_same_identifier (Data k) d.identifier) (definitions_among seed n (range_with_len 0 k)) (first_of_number seed n k ∷ []), data_undefined seed n k 0 k (omega arith)) refl in
+    rw (list_any-append (λ (d : Definition). is_same_identifier (Data k) d.identifier) (definitions_among seed n (range_with_len 0 k)) (first_of_number seed n k ∷ []), data_undefined seed n k 0 k (omega arith)) refl in
     record {
       free = rw (row_there data_row n k h, before) refl;
       made = rw (row_there data_row n k h, pairs_more (first_of_number seed n) (second_of_number seed n) k) refl;

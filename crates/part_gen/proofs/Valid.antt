@@ -1,7 +1,6 @@
 -- Nothing in a generated part is refused.
-use Rattle.std.proofs.Common.{◌≡◌, ℕ, zero, suc, ◌+◌, ◌*◌, ◌%◌, ◌^◌, ◌<◌, ◌≤◌, ◌==◌, ◌||◌, List, [], ◌∷◌, ◌++◌, Bool, true, false, Option, Some, None, option_map, refl, ap, sym, ◌∙◌, subst, arith, map, slice_get, append-nil}
+use Rattle.std.proofs.Common.{◌≡◌, ℕ, zero, suc, ◌+◌, ◌*◌, ◌%◌, ◌<◌, ◌≤◌, ◌==◌, ◌||◌, List, [], ◌++◌, Bool, true, false, None, option_map, refl, ap, sym, ◌∙◌, subst, arith, map, append-nil}
 use Rattle.std.specs.List.{range_with_len, list_any, flat_map, enumerate_from}
-use Rattle.std.specs.Option.{option_or}
 use Rattle.std.proofs.lemmas.Bool.Decides.{nat_tests}
 use Rattle.std.specs.Prelude.{codes}
 use Rattle.cranelift_module.specs.declared.identifiers.FuncOrDataId.TheVariants.{Func, Data}
@@ -9,19 +8,20 @@ use Rattle.cranelift_module.specs.Call.{Call}
 use Rattle.cranelift_module.specs.Definitions.{Definition, definitions_of}
 use Rattle.cranelift_module.specs.Rows.{functions_of, objects_of, creation}
 use Rattle.ir_core.specs.Moments.{moments}
-use Rattle.cranelift_module.specs.LinkState.{LinkState, state_of, steps}
+use Rattle.cranelift_module.specs.LinkState.{LinkState, state_of}
 use Rattle.cranelift_module.specs.LibraryNames.{usual_texts}
-use Rattle.cranelift_module.specs.Refusal.{Refusal, is_same_identifier, first_cause}
-use Rattle.cranelift_object.specs.Commands.{first_refusal}
-use Rattle.cranelift_object.specs.EndCause.{end_cause, missing_function, missing_data, first_missing_function, first_missing_data, first_bad_reference, first_bad_target}
-use Rattle.cranelift_object.specs.Part.{PartData, start_cause, first_refused, part_state}
+use Rattle.cranelift_module.specs.Refusal.{is_same_identifier, first_cause}
+use Rattle.cranelift_object.specs.EndCause.{end_cause, missing_function, missing_data, first_bad_target}
+use Rattle.cranelift_object.specs.Part.{start_cause, first_refused, part_state, part_cause, limit_of}
+use Rattle.cranelift_object.specs.Linked.{object_of}
+use Rattle.part_gen.proofs.Limits.{limit_free}
 use Rattle.cranelift_object.specs.Settings.{plain_settings}
 use Rattle.cranelift_object.proofs.RunLaws.{at_pair, first_refused-calls, accepted-state}
 use Rattle.cranelift_object.proofs.FinishLaws.{end_parts}
 use Rattle.part_gen.specs.Draws.{draw}
-use Rattle.part_gen.specs.Generated.{elf_target, function_declared, data_declared, function_defined, data_defined, declarations_at, definitions_at, calls_of, generated}
-use Rattle.part_gen.proofs.Runs.{IsRun, IsStep, run_none, run_numbers}
-use Rattle.part_gen.proofs.States.{declared, half_declared, function_step, data_step, defined, half_defined, none_defined, function_defined_step, data_defined_step, definitions_among, row_there, function_row, data_row, function_rows, data_rows}
+use Rattle.part_gen.specs.Generated.{elf_target, function_declared, data_declared, function_defined, data_defined, definitions_at, calls_of, generated}
+use Rattle.part_gen.proofs.Runs.{IsRun, run_none, run_numbers}
+use Rattle.part_gen.proofs.States.{declared, half_declared, function_step, data_step, defined, half_defined, none_defined, function_defined_step, data_defined_step, definitions_among, row_there, function_row, data_row}
 
 -- -- the calls
 
@@ -102,3 +102,26 @@ unfolding defined
 end_free seed n h =
     end_parts (defined seed n n)
     ∙ (rw (functions_have seed n 0 n (omega arith), objects_have seed n 0 n (omega arith), references_had seed n 0 n h) refl)
+
+-- -- the part
+
+pub part_start : (seed n : ℕ) → start_cause (generated seed n).settings (generated seed n).target ≡ None
+unfolding generated
+part_start seed n = start_free
+
+pub part_accepted : (seed n : ℕ) → n ≤ 100000 → first_refused (generated seed n).target (generated seed n).calls ≡ None
+unfolding generated
+part_accepted seed n most = calls_accepted seed n most
+
+pub part_finished : (seed n : ℕ) → 0 < n → n ≤ 100000 → end_cause (part_state (generated seed n)) ≡ None
+unfolding generated
+part_finished seed n some most = ap end_cause (state_left seed n most) ∙ end_free seed n some
+
+part_within : (seed n : ℕ) → 0 < n → n ≤ 100000 → limit_of (object_of (generated seed n).settings (part_state (generated seed n))) ≡ None
+unfolding generated
+part_within seed n some most = ap (λ (s : LinkState). limit_of (object_of (plain_settings (codes "gen.o") usual_texts) s)) (state_left seed n most) ∙ limit_free seed n some most
+
+-- the part has no cause
+pub part_valid : (seed n : ℕ) → 0 < n → n ≤ 100000 → part_cause (generated seed n) ≡ None
+unfolding part_cause
+part_valid seed n some most = rw (part_start seed n, part_accepted seed n most, part_finished seed n some most, part_within seed n some most) refl

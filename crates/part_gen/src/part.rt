@@ -123,12 +123,7 @@ fn push_definitions_of(
     Ok(())
 }
 
-fn function_definition(
-    alloc: Global,
-    k: u32,
-    size: u32,
-    object: u32,
-) -> Result<Command, AllocError>
+fn function_definition(alloc: Global, k: u32, size: u32, object: u32) -> Result<Command, AllocError>
     ensures { IfOk result (λ command. command_view command ≡ function_defined k size object) }
 {
     let target = ModuleRelocTarget::from(DataId::from_u32(object));
@@ -146,12 +141,7 @@ fn function_definition(
     })
 }
 
-fn data_definition(
-    alloc: Global,
-    k: u32,
-    byte: u8,
-    function: u32,
-) -> Result<Command, AllocError>
+fn data_definition(alloc: Global, k: u32, byte: u8, function: u32) -> Result<Command, AllocError>
     ensures { IfOk result (λ command. command_view command ≡ data_defined k byte function) }
 {
     let mut desc = DataDescription::new(alloc);
