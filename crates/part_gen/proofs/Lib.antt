@@ -1,0 +1,6 @@
+pub mod Numbers
+pub mod Names
+pub mod Runs
+pub mod States
+pub mod Limits
+pub mod Valid

@@ -1,0 +1,9 @@
+use Rattle.std.proofs.Common.{◌≡◌, ◌-◌, ◌++◌, map}
+use Rattle.std.specs.List.{range_with_len, flat_map}
+use Rattle.cranelift_object.specs.Command.{command_view}
+use Rattle.part_gen.specs.Generated.{declarations_at}
+use Rattle.part_gen.proofs.part.push_declarations.Given as goal
+
+abbrev pub invariant-loop-k : goal.invariant-loop-k
+invariant-loop-k l =
+    map command_view l.commands.items ++ flat_map declarations_at (range_with_len l.k (l.n - l.k)) ≡ map command_view l.fn.commands.items ++ flat_map declarations_at (range_with_len 0 l.n)
