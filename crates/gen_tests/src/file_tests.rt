@@ -1,7 +1,7 @@
 //! The files that generated parts build.
 
-
 ghost use Rattle.std.specs.Prelude.{◌<◌, ◌≤◌};
+
 use image_build::{Part, build_image};
 use image_read::{ElfImage, Image, read_image};
 use part_gen::gen_part;
@@ -59,7 +59,10 @@ fn a_part_of_20000_functions_is_built_to_the_same_length_twice(
     rt: HostRuntime,
 ) -> Result<(), Fail> {
     let length = built_length(&rt, rt.alloc(), 1, 20_000, 40_002, 40_000)?;
-    assert_eq!(rt; built_length(&rt, rt.alloc(), 1, 20_000, 40_002, 40_000)?, length);
+    assert_eq!(rt;
+        built_length(&rt, rt.alloc(), 1, 20_000, 40_002, 40_000)?,
+        length
+    );
     Ok(())
 }
 

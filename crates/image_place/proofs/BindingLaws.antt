@@ -71,7 +71,7 @@ last_by false f = refl
 far_fault : (objects : List (List (Piece ℕ))) (addresses : List AddressRow) (externs : List (List ℕ × ℕ)) (q k : ℕ) (v : View) (ds : List Definition) (s : ViewSection) (r : ViewReloc) (kind : FixKind) (goal : Goal ℕ) (a : ℕ) → r.kind ≡ Some kind → row_goal v ds r.symbol ≡ Some goal
     → address_of objects (given addresses) externs q goal ≡ Some a
     → (if list_any (λ d. holds_it k s.start r kind d && is_far s.start r kind a d) ds then Some (does_not_fit q r.offset) else None)
-      ≡ option_or (fault_if (list_any (is_too_far objects addresses externs q v ds s r) (holders ds k s r)) (does_not_fit q r.offset)) (first_fault [])
+    ≡ option_or (fault_if (list_any (is_too_far objects addresses externs q v ds s r) (holders ds k s r)) (does_not_fit q r.offset)) (first_fault [])
 far_fault objects addresses externs q k v ds s r kind goal a e f g =
     let same : list_any (is_too_far objects addresses externs q v ds s r) (holders ds k s r) ≡ list_any (λ d. holds_it k s.start r kind d && is_far s.start r kind a d) ds =
     ap (λ o. list_any (is_too_far objects addresses externs q v ds s r) (filter (λ (d : Definition). d.section == k && holds_field s.start r o d) ds)) e
@@ -170,7 +170,7 @@ entries_of_view objects addresses externs F q v h =
 
 entries_from : (objects : List (List (Piece ℕ))) (addresses : List AddressRow) (externs : List (List ℕ × ℕ)) (F : Binding) (n : ℕ) (views : List View) → ((x : List ℕ) → F x ≡ bound objects (given addresses) externs x)
     → flat_map (numbered_entries F addresses) (enumerate_from n views)
-      ≡ flat_map (λ (e : ℕ × List (Piece ℕ)). filter_map (entry_of objects addresses externs e.0) e.1) (enumerate_from n (map (λ (e : ℕ × View). view_pieces addresses e.0 e.1) (enumerate_from n views)))
+    ≡ flat_map (λ (e : ℕ × List (Piece ℕ)). filter_map (entry_of objects addresses externs e.0) e.1) (enumerate_from n (map (λ (e : ℕ × View). view_pieces addresses e.0 e.1) (enumerate_from n views)))
 entries_from objects addresses externs F n [] h = refl
 entries_from objects addresses externs F n (v ∷ views) h =
     ap (λ xs. xs ++ flat_map (numbered_entries F addresses) (enumerate_from (n + 1) views)) (sym (entries_of_view objects addresses externs F n v h))
