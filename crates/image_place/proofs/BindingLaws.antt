@@ -1,5 +1,5 @@
 -- Placement by what names are bound to is placement by the definitions that objects show.
-use Rattle.std.proofs.Common.{◌≡◌, ℕ, zero, suc, ◌+◌, ◌-◌, ◌==◌, List, [], ◌∷◌, ◌++◌, length, map, refl, ap, sym, ◌∙◌, arith, Some, None, Bool, true, false, slice_get, cond}
+use Rattle.std.proofs.Common.{◌≡◌, ℕ, suc, ◌+◌, ◌-◌, ◌==◌, List, [], ◌∷◌, ◌++◌, length, map, refl, ap, sym, ◌∙◌, arith, Some, None, Bool, true, false, slice_get}
 use Rattle.std.specs.Prelude.{Option, option_map, option_and_then, is_some, not, ◌&&◌, ◌||◌, filter, flat_map, if◌then◌else◌}
 use Rattle.std.specs.List.{filter_map, cons_option, enumerate_from, list_any}
 use Rattle.std.specs.Option.{option_or}
@@ -8,11 +8,11 @@ use Rattle.std.specs.HashMap.{HashMap}
 use Rattle.std.proofs.lemmas.Bool.{ne_eqb}
 use Rattle.ir_core.specs.Moments.{moments}
 use Rattle.byte_core.specs.Number.{bytes_at}
-use Rattle.image_place.specs.Fixups.{FixKind, Goal, own, named, Fixup, Piece, bound, outside, exporters_from, address_of, resolved, patch_of, value_bytes, fixed, memory_of}
+use Rattle.image_place.specs.Fixups.{FixKind, Goal, own, named, Fixup, Piece, bound, outside, exporters_from, address_of, resolved, value_bytes, fixed, memory_of}
 use Rattle.image_place.specs.View.{View, ViewReloc, ViewSection}
-use Rattle.image_place.specs.Placed.{AddressRow, Definition, definitions_in, given, fixup_at, holds_field, row_goal, piece_in, view_pieces, all_pieces, entry_of, PlacedEntry, placed_entries, PlaceFault, first_fault, fault_if, other_kind, no_address, loose_label, does_not_fit, goal_fault, is_too_far, holders, reloc_fault, image_faults, twice_fault, address_fault, all_definitions, place_fault}
-use Rattle.image_place.specs.Leading.{Binding, led, led_name, holds_it, is_far, led_fault, kind_fault, fault_by, section_faults, view_faults, numbered_faults, faults_by}
-use Rattle.image_place.specs.Applying.{goal_address, resolved_by, held_by, bytes_by, entry_by, numbered_entries, entries_by}
+use Rattle.image_place.specs.Placed.{AddressRow, Definition, definitions_in, given, fixup_at, holds_field, row_goal, piece_in, view_pieces, all_pieces, entry_of, PlacedEntry, placed_entries, PlaceFault, first_fault, fault_if, other_kind, no_address, does_not_fit, goal_fault, is_too_far, holders, reloc_fault, image_faults, twice_fault, address_fault, all_definitions, place_fault}
+use Rattle.image_place.specs.Leading.{Binding, led, led_name, holds_it, is_far, led_fault, kind_fault, fault_by, section_faults, numbered_faults, faults_by}
+use Rattle.image_place.specs.Applying.{goal_address, resolved_by, bytes_by, entry_by, numbered_entries, entries_by}
 use Rattle.image_place.specs.Applying.{AreWhole, AllHaveRanges}
 use Rattle.image_place.specs.Faults.{definition_faults}
 use Rattle.image_place.specs.Naming.{at_name, told_all, found_or, address_found, Exports, Outsides}
@@ -71,7 +71,7 @@ last_by false f = refl
 far_fault : (objects : List (List (Piece ℕ))) (addresses : List AddressRow) (externs : List (List ℕ × ℕ)) (q k : ℕ) (v : View) (ds : List Definition) (s : ViewSection) (r : ViewReloc) (kind : FixKind) (goal : Goal ℕ) (a : ℕ) → r.kind ≡ Some kind → row_goal v ds r.symbol ≡ Some goal
     → address_of objects (given addresses) externs q goal ≡ Some a
     → (if list_any (λ d. holds_it k s.start r kind d && is_far s.start r kind a d) ds then Some (does_not_fit q r.offset) else None)
-      ≡ option_or (fault_if (list_any (is_too_far objects addresses externs q v ds s r) (holders ds k s r)) (does_not_fit q r.offset)) (first_fault [])
+    ≡ option_or (fault_if (list_any (is_too_far objects addresses externs q v ds s r) (holders ds k s r)) (does_not_fit q r.offset)) (first_fault [])
 far_fault objects addresses externs q k v ds s r kind goal a e f g =
     let same : list_any (is_too_far objects addresses externs q v ds s r) (holders ds k s r) ≡ list_any (λ d. holds_it k s.start r kind d && is_far s.start r kind a d) ds =
     ap (λ o. list_any (is_too_far objects addresses externs q v ds s r) (filter (λ (d : Definition). d.section == k && holds_field s.start r o d) ds)) e
@@ -170,7 +170,7 @@ entries_of_view objects addresses externs F q v h =
 
 entries_from : (objects : List (List (Piece ℕ))) (addresses : List AddressRow) (externs : List (List ℕ × ℕ)) (F : Binding) (n : ℕ) (views : List View) → ((x : List ℕ) → F x ≡ bound objects (given addresses) externs x)
     → flat_map (numbered_entries F addresses) (enumerate_from n views)
-      ≡ flat_map (λ (e : ℕ × List (Piece ℕ)). filter_map (entry_of objects addresses externs e.0) e.1) (enumerate_from n (map (λ (e : ℕ × View). view_pieces addresses e.0 e.1) (enumerate_from n views)))
+    ≡ flat_map (λ (e : ℕ × List (Piece ℕ)). filter_map (entry_of objects addresses externs e.0) e.1) (enumerate_from n (map (λ (e : ℕ × View). view_pieces addresses e.0 e.1) (enumerate_from n views)))
 entries_from objects addresses externs F n [] h = refl
 entries_from objects addresses externs F n (v ∷ views) h =
     ap (λ xs. xs ++ flat_map (numbered_entries F addresses) (enumerate_from (n + 1) views)) (sym (entries_of_view objects addresses externs F n v h))
