@@ -1,5 +1,5 @@
 -- Placement by what names are bound to is placement by the definitions that objects show.
-use Rattle.std.proofs.Common.{◌≡◌, ℕ, zero, suc, ◌+◌, ◌-◌, ◌==◌, List, [], ◌∷◌, ◌++◌, length, map, refl, ap, sym, ◌∙◌, arith, Some, None, Bool, true, false, slice_get, cond}
+use Rattle.std.proofs.Common.{◌≡◌, ℕ, suc, ◌+◌, ◌-◌, ◌==◌, List, [], ◌∷◌, ◌++◌, length, map, refl, ap, sym, ◌∙◌, arith, Some, None, Bool, true, false, slice_get}
 use Rattle.std.specs.Prelude.{Option, option_map, option_and_then, is_some, not, ◌&&◌, ◌||◌, filter, flat_map, if◌then◌else◌}
 use Rattle.std.specs.List.{filter_map, cons_option, enumerate_from, list_any}
 use Rattle.std.specs.Option.{option_or}
@@ -8,11 +8,11 @@ use Rattle.std.specs.HashMap.{HashMap}
 use Rattle.std.proofs.lemmas.Bool.{ne_eqb}
 use Rattle.ir_core.specs.Moments.{moments}
 use Rattle.byte_core.specs.Number.{bytes_at}
-use Rattle.image_place.specs.Fixups.{FixKind, Goal, own, named, Fixup, Piece, bound, outside, exporters_from, address_of, resolved, patch_of, value_bytes, fixed, memory_of}
+use Rattle.image_place.specs.Fixups.{FixKind, Goal, own, named, Fixup, Piece, bound, outside, exporters_from, address_of, resolved, value_bytes, fixed, memory_of}
 use Rattle.image_place.specs.View.{View, ViewReloc, ViewSection}
-use Rattle.image_place.specs.Placed.{AddressRow, Definition, definitions_in, given, fixup_at, holds_field, row_goal, piece_in, view_pieces, all_pieces, entry_of, PlacedEntry, placed_entries, PlaceFault, first_fault, fault_if, other_kind, no_address, loose_label, does_not_fit, goal_fault, is_too_far, holders, reloc_fault, image_faults, twice_fault, address_fault, all_definitions, place_fault}
-use Rattle.image_place.specs.Leading.{Binding, led, led_name, holds_it, is_far, led_fault, kind_fault, fault_by, section_faults, view_faults, numbered_faults, faults_by}
-use Rattle.image_place.specs.Applying.{goal_address, resolved_by, held_by, bytes_by, entry_by, numbered_entries, entries_by}
+use Rattle.image_place.specs.Placed.{AddressRow, Definition, definitions_in, given, fixup_at, holds_field, row_goal, piece_in, view_pieces, all_pieces, entry_of, PlacedEntry, placed_entries, PlaceFault, first_fault, fault_if, other_kind, no_address, does_not_fit, goal_fault, is_too_far, holders, reloc_fault, image_faults, twice_fault, address_fault, all_definitions, place_fault}
+use Rattle.image_place.specs.Leading.{Binding, led, led_name, holds_it, is_far, led_fault, kind_fault, fault_by, section_faults, numbered_faults, faults_by}
+use Rattle.image_place.specs.Applying.{goal_address, resolved_by, bytes_by, entry_by, numbered_entries, entries_by}
 use Rattle.image_place.specs.Applying.{AreWhole, AllHaveRanges}
 use Rattle.image_place.specs.Faults.{definition_faults}
 use Rattle.image_place.specs.Naming.{at_name, told_all, found_or, address_found, Exports, Outsides}

@@ -1,6 +1,6 @@
 -- Names that are noted one after the other.
 use Rattle.std.proofs.Common.{◌≡◌, ℕ, ◌+◌, ◌<◌, List, [], ◌∷◌, ◌++◌, length, map, take, get_or, Bool, true, false, cond, Some, None, refl, ap, sym, ◌∙◌, Bor, bytes_eq, find, slice_get}
-use Rattle.std.specs.Prelude.{Option, option_map, is_some, not, ◌&&◌, if◌then◌else◌}
+use Rattle.std.specs.Prelude.{Option, option_map, is_some, not, ◌&&◌, unwrap_or, if◌then◌else◌}
 use Rattle.std.specs.Option.{option_or}
 use Rattle.std.specs.List.{filter_map, cons_option}
 use Rattle.std.specs.HashMap.{HashMap}
@@ -35,17 +35,13 @@ outsides_next old new es name a h n x = n x ∙ ap (λ o. option_or o (outside x
 
 -- -- one note
 
-some_first : {A : Type 0} (o p : Option A) → is_some o ≡ true → option_or o p ≡ o
-some_first None p e = absurd (cc)
-some_first (Some x) p e = refl
-
 none_last : {A : Type 0} (o : Option A) → option_or o None ≡ o
 none_last None = refl
 none_last (Some x) = refl
 
-is_none : {A : Type 0} (o : Option A) → is_some o ≡ false → o ≡ None
-is_none None e = refl
-is_none (Some x) e = absurd (cc)
+first_is : (o : Option ℕ) (a : ℕ) → Some (unwrap_or o a) ≡ option_or o (Some a)
+first_is None a = refl
+first_is (Some x) a = refl
 
 text_same : (a b : List ℕ) → bytes_eq a b ≡ true → a ≡ b
 text_same a b e = (bytes_eq-Decides a b).0 e
@@ -54,13 +50,13 @@ outside_one : (x name : List ℕ) (a : ℕ) (b : Bool) → bytes_eq name x ≡ b
 outside_one x name a true e = rw e refl
 outside_one x name a false e = rw e refl
 
-new_by : (f : List ℕ → Option ℕ) (x name : List ℕ) (a : ℕ) (b : Bool) → bytes_eq name x ≡ b → f name ≡ None → cond b (Some a) (f x) ≡ option_or (f x) (cond b (Some a) None)
-new_by f x name a true e none = ap (λ o. option_or o (Some a)) (sym none ∙ ap f (text_same name x e))
-new_by f x name a false e none = sym (none_last (f x))
+first_by : (f : List ℕ → Option ℕ) (x name : List ℕ) (a : ℕ) (b : Bool) → bytes_eq name x ≡ b → cond b (Some (unwrap_or (f name) a)) (f x) ≡ option_or (f x) (cond b (Some a) None)
+first_by f x name a true e = ap (λ y. Some (unwrap_or (f y) a)) (text_same name x e) ∙ first_is (f x) a
+first_by f x name a false e = sym (none_last (f x))
 
--- a name that was not there
-pub outside_new : (f : List ℕ → Option ℕ) (x name : List ℕ) (a : ℕ) → is_some (f name) ≡ false → cond (bytes_eq name x) (Some a) (f x) ≡ option_or (f x) (outside x ((name, a) ∷ []))
-outside_new f x name a new = new_by f x name a (bytes_eq name x) refl (is_none (f name) new) ∙ ap (option_or (f x)) (sym (outside_one x name a (bytes_eq name x) refl))
+-- an address more is noted, if it is the first of its name
+pub outside_first : (f : List ℕ → Option ℕ) (x name : List ℕ) (a : ℕ) → cond (bytes_eq name x) (Some (unwrap_or (f name) a)) (f x) ≡ option_or (f x) (outside x ((name, a) ∷ []))
+outside_first f x name a = first_by f x name a (bytes_eq name x) refl ∙ ap (option_or (f x)) (sym (outside_one x name a (bytes_eq name x) refl))
 
 pub outsides_step : {S : Type 0} (old new : HashMap (Bor (List ℕ)) ℕ S) (externs : List Extern) (i : ℕ) (e : Extern) → i < length externs → e ≡ get_or externs i e → Outsides old (map extern_view (take i externs)) → NotesOutside old new e.name.items e.address
     → Outsides new (map extern_view (take (i + 1) externs))

@@ -1,13 +1,13 @@
 -- The ranges of definitions lie in the bytes of their sections.
-use Rattle.std.proofs.Common.{◌≡◌, ℕ, zero, suc, ◌+◌, ◌-◌, ◌<◌, ◌≤◌, List, [], ◌∷◌, ◌++◌, length, map, take, drop, replicate, refl, ap, sym, ◌∙◌, arith, Some, None, Bool, true, false, slice_get, cond, subst}
-use Rattle.std.specs.Prelude.{Option, option_and_then, filter, flat_map, not, is_some, ◌&&◌, ◌||◌, nat_lt, nat_le, ◌^◌, if◌then◌else◌}
+use Rattle.std.proofs.Common.{◌≡◌, ℕ, zero, suc, ◌+◌, ◌-◌, ◌<◌, ◌≤◌, List, [], ◌∷◌, length, map, take, drop, refl, ap, sym, ◌∙◌, arith, Some, None, Bool, true, false, slice_get, subst}
+use Rattle.std.specs.Prelude.{Option, option_and_then, filter, flat_map, ◌||◌, nat_lt, nat_le, ◌^◌, if◌then◌else◌}
 use Rattle.std.specs.List.{filter_map, cons_option, enumerate_from, range_with_len}
 use Rattle.std.proofs.lemmas.Bool.{ltb-false, or_parts}
 use Rattle.std.proofs.lemmas.List.{length-take, length-drop, length-replicate}
 use Rattle.std.proofs.lemmas.List.Elements.{filter-append}
 use Rattle.byte_core.specs.Number.{bytes_at}
 use Rattle.byte_core.proofs.Lists.{get_map, get_map_from}
-use Rattle.image_read.specs.ElfFile.{header_of, section_row, has_bytes, row_numbers}
+use Rattle.image_read.specs.ElfFile.{header_of, section_row, has_bytes}
 use Rattle.image_read.specs.ElfImage.{ElfImageData, ElfSectionData, ElfReads, section_data, elf_image_of}
 use Rattle.image_read.specs.MachFile.{mach_section_row, mach_has_bytes, section_count}
 use Rattle.image_read.specs.MachImage.{MachImageData, MachSectionData, MachReads, mach_section_data, mach_image_of}
@@ -16,7 +16,7 @@ use Rattle.image_read.specs.declared.image.Image.{Image}
 use Rattle.image_read.specs.declared.image.Image.TheVariants.{Elf, Mach, Fat}
 use Rattle.image_place.specs.View.{View, ViewSymbol, ViewSection, filled, elf_view, elf_view_section, mach_view, mach_view_section, view_of}
 use Rattle.image_place.specs.Placed.{AddressRow, At, Definition, definition_at, definitions_in, row_for, symbols_at, all_definitions, PlaceFault, first_fault, address_fault, is_homeless, leaves, section_of, is_definition, no_address, IsViewed, AreViewed}
-use Rattle.image_place.specs.Applying.{HasRange, IsHome, HaveRanges, AllHaveRanges, IsWhole, AreWhole}
+use Rattle.image_place.specs.Applying.{HasRange, IsHome, AllHaveRanges, IsWhole, AreWhole}
 use Rattle.image_place.proofs.DefinitionLaws.{map_append}
 use Rattle.image_place.proofs.EntryLaws.{fault_left, fault_right, fault_map, enumerated, filtered, false_if}
 

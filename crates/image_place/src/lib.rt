@@ -1,5 +1,6 @@
 //! Placement: the bytes that relocated objects have in memory. It stands on the readers' images and on the link state of
-//! parts. The layer above may rely on this: the placement laws, and a view of each x86_64 object, whatever its format.
+//! parts. The layer above may rely on this: `place` answers exactly the bytes in memory of each definition, or the first
+//! cause why not; the placement laws; and a view of each x86_64 object, whatever its format.
 #![tactic(auto)]
 
 mod addresses;

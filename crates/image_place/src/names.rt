@@ -1,6 +1,6 @@
 //! Names with addresses.
 
-ghost use Rattle.std.specs.Prelude.{◌≡◌, IfOk, OnOk, map};
+ghost use Rattle.std.specs.Prelude.{◌≡◌, IfOk, OnOk, map, unwrap_or};
 ghost use Rattle.image_place.specs.Naming.{address_found, told_next, Outsides, NotesName, NotesOutside};
 ghost use Rattle.image_place.specs.Views.{extern_view};
 
@@ -52,11 +52,18 @@ fn note_outside<'a>(
 ) -> Result<(), AllocError>
     ensures { OnOk result (NotesOutside names.old names.new name.now address) }
 {
-    if names.contains_key(name) {
-        return Ok(());
-    }
-    names.insert(name, address)?;
+    let first = first_of(names.get(name).copied(), address);
+    names.insert(name, first)?;
     Ok(())
+}
+
+fn first_of(known: Option<u64>, address: u64) -> u64
+    ensures { result ≡ unwrap_or known address }
+{
+    match known {
+        Some(first) => first,
+        None => address,
+    }
 }
 
 /// The address of a name: that of its one definition that others see, else that from outside.

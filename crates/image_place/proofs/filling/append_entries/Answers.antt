@@ -1,4 +1,4 @@
-use Rattle.std.proofs.Common.{◌≡◌, List, ℕ, Some, map, ap, sym, ◌∙◌, slice_get}
+use Rattle.std.proofs.Common.{map}
 use Rattle.std.proofs.lemmas.Option.{slice_get-get_or}
 use Rattle.byte_core.proofs.Lists.{get_map}
 use Rattle.image_place.specs.Applying.{entry_by}

@@ -1,4 +1,4 @@
-use Rattle.std.proofs.Common.{◌≡◌, ◌<◌, List, ℕ, Some, None, map, length, get_or, ap, sym, ◌∙◌, arith}
+use Rattle.std.proofs.Common.{◌≡◌, ◌<◌, List, Some, None, map, length, get_or, ap, sym, ◌∙◌, arith}
 use Rattle.image_place.specs.View.{ViewSection}
 use Rattle.image_place.specs.Leading.{section_faults}
 use Rattle.image_place.specs.Naming.{address_found}
