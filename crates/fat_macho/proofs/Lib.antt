@@ -18,3 +18,4 @@ mod Results
 mod Pairs
 mod InputLaws
 mod JoiningLaws
+mod StepLaws

@@ -9,6 +9,7 @@ pub mod Laws
 pub mod ClassView
 pub mod ShapeView
 pub mod LayoutView
+pub mod LayoutSteps
 pub mod Reading
 pub mod Parts
 pub mod Adding

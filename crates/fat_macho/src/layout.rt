@@ -28,7 +28,9 @@ const ENTRY_64_SIZE: u64 = 32;
 #[tactic(auto, unfolding(crate::specs::Layout::fat_layout, crate::specs::Layout::layout_of))]
 pub fn layout_of<T: Shaped>(slices: &[T]) -> LayoutNumbers
     requires { length slices.now < 2 ^ 33 }
-    ensures { AreNumbersOf result (fat_layout (map T.shape slices.now)) }
+    ensures numbers { AreNumbersOf result (fat_layout (map T.shape slices.now)) }
+    ensures some { 0 < result.align }
+    ensures bound { result.align ≤ 0x4000 }
 {
     let align = greatest_align(slices);
     let count = slices.len() as u64;

@@ -18,9 +18,11 @@ mod parse;
 mod read;
 mod reading;
 mod shape;
+mod steps;
 mod writer;
 
 pub use error::{Error, InvalidCase, IoCause};
 pub use laws::layout_laws;
 pub use read::FatReader;
+pub use steps::{LayoutStep, LayoutSteps};
 pub use writer::FatWriter;

@@ -8,6 +8,7 @@ ghost use Rattle.fat_macho.specs.Held.{borrowed, owned, shapes_held, IsAdded, Is
 ghost use Rattle.fat_macho.specs.HeldViews.{raw_shape};
 ghost use Rattle.fat_macho.specs.Input.{joining_cause};
 ghost use Rattle.fat_macho.specs.Layout.{total_of};
+ghost use Rattle.fat_macho.specs.LayoutSteps.{layout_steps};
 ghost use Rattle.fat_macho.specs.declared.error.Error.TheVariants.{Io};
 ghost use Rattle.fat_macho.specs.declared.error.IoCause.TheVariants.{Source as SourceFault};
 ghost use Rattle.fat_macho.specs.Slices.{by_shape, all_inserted, in_order_by};
@@ -18,6 +19,7 @@ use crate::held::HeldSlice;
 use crate::input::input_parts;
 use crate::joining::{judge, total_of};
 use crate::order::put_all_in_order;
+use crate::steps::{LayoutSteps, steps_of};
 use byte_core::{PlainSource, Source};
 use std::alloc::Global;
 use std::marker::Model;
@@ -74,6 +76,13 @@ impl<'a, S: Source + Drop> FatWriter<'a, S> {
         ensures { result ≡ total_of (shapes_held self.now) }
     {
         total_of(&self.slices) as u64
+    }
+
+    /// Where each slice stands in the fat file, in the order of the file.
+    pub fn layout(&self) -> LayoutSteps<'_>
+        ensures { result ≡ layout_steps (shapes_held self.now) }
+    {
+        steps_of(&self.slices)
     }
 
     /// Adds a thin image, or all slices of a fat file in one step.
