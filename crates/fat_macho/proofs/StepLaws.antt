@@ -44,3 +44,21 @@ pub layout_short : (shapes : List Shape) → total_of shapes < 2 ^ 63 → (fat_l
 unfolding fat_layout layout_of
 layout_short [] h = omega arith
 layout_short (a ∷ shapes) h = h
+
+-- the numbers of a layout, and where its table ends
+pub record StartsAt (shapes : List Shape) (align start : ℕ) : Type 0 where
+  pub end : end_from align start (sizes_of shapes) ≡ (fat_layout shapes).total
+  pub offsets : places_from align start (sizes_of shapes) ≡ (fat_layout shapes).offsets
+
+pub starts_at : (shapes : List Shape) (wide : Bool) (align count start : ℕ) → wide ≡ (fat_layout shapes).wide → align ≡ (fat_layout shapes).align → count ≡ length shapes → start ≡ fat_table_end wide count → StartsAt shapes align start
+starts_at shapes wide align count start w a n s =
+    let f = layout_fits shapes in
+    let here : start ≡ fat_table_end (fat_layout shapes).wide (length shapes) = s ∙ ap (λ k. fat_table_end wide k) n ∙ ap (λ x. fat_table_end x (length shapes)) w in
+    record {
+      end = ap (λ x. end_from x start (sizes_of shapes)) a ∙ ap (λ p. end_from (fat_layout shapes).align p (sizes_of shapes)) here ∙ sym f.total;
+      offsets = ap (λ x. places_from x start (sizes_of shapes)) a ∙ ap (λ p. places_from (fat_layout shapes).align p (sizes_of shapes)) here ∙ sym f.offsets;
+    }
+
+pub steps_are : (shapes : List Shape) (align start : ℕ) → StartsAt shapes align start → steps_from align start (sizes_of shapes) ≡ layout_steps shapes
+unfolding layout_steps
+steps_are shapes align start s = ap (λ ps. map step_at (zip ps (sizes_of shapes))) s.offsets

@@ -65,7 +65,6 @@ impl<'a> Iterator for LayoutSteps<'a> {
 }
 
 /// The steps of slices in their order.
-#[tactic(auto, unfolding(crate::specs::LayoutSteps::layout_steps), using(crate::proofs::StepLaws::layout_fits))]
 pub fn steps_of<'a>(slices: &'a [HeldSlice<'a>]) -> LayoutSteps<'a>
     requires few { length slices.now < 2 ^ 32 }
     requires short { total_of (map raw_shape slices.now) < 2 ^ 63 }
