@@ -19,3 +19,4 @@ mod Pairs
 mod InputLaws
 mod JoiningLaws
 mod StepLaws
+mod NamedLaws

@@ -10,6 +10,7 @@ pub mod ClassView
 pub mod ShapeView
 pub mod LayoutView
 pub mod LayoutSteps
+pub mod Named
 pub mod Reading
 pub mod Parts
 pub mod Adding

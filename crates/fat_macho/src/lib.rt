@@ -13,6 +13,7 @@ mod input;
 mod joining;
 mod laws;
 mod layout;
+mod named;
 mod order;
 mod parse;
 mod read;

@@ -1,10 +1,10 @@
 //! Writing of fat files.
 
-ghost use Rattle.std.specs.Prelude.{◌≡◌, ◌==◌, ◌^◌, ◌<◌, [], ◌∷◌, ◌++◌, length, map, true, IfSome, IfErr, OnOk, OnErr, None};
+ghost use Rattle.std.specs.Prelude.{◌≡◌, ◌==◌, ◌^◌, ◌<◌, [], ◌∷◌, ◌++◌, length, map, true, is_some, IfSome, IfErr, OnOk, OnErr, None};
 ghost use Rattle.std.specs.Rc.{rc_slice_items};
 ghost use Rattle.std.specs.Vec.{vec_len, vec_capacity};
 ghost use Rattle.fat_macho.specs.Adding.{TellsAdd};
-ghost use Rattle.fat_macho.specs.Held.{borrowed, owned, shapes_held, IsAdded, IsTaken, IsAddError, AddsShapes};
+ghost use Rattle.fat_macho.specs.Held.{borrowed, owned, shapes_held, slice_named, IsAdded, IsTaken, IsAddError, AddsShapes};
 ghost use Rattle.fat_macho.specs.HeldViews.{raw_shape};
 ghost use Rattle.fat_macho.specs.Input.{joining_cause};
 ghost use Rattle.fat_macho.specs.Layout.{total_of};
@@ -18,6 +18,7 @@ use crate::added::{InputBytes, held_parts, owned_parts};
 use crate::held::HeldSlice;
 use crate::input::input_parts;
 use crate::joining::{judge, total_of};
+use crate::named::place_named;
 use crate::order::put_all_in_order;
 use crate::steps::{LayoutSteps, steps_of};
 use byte_core::{PlainSource, Source};
@@ -69,6 +70,13 @@ impl<'a, S: Source + Drop> FatWriter<'a, S> {
         ensures { result ≡ (length self.now == 0) }
     {
         self.slices.is_empty()
+    }
+
+    /// Whether there is a slice of the architecture of this name.
+    pub fn exists(&self, arch: &str) -> bool
+        ensures { result ≡ is_some (slice_named self.now arch.now) }
+    {
+        place_named(&self.slices, arch).is_some()
     }
 
     /// How long the fat file is in bytes, 0 without slices.
