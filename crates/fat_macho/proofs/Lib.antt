@@ -20,3 +20,4 @@ mod InputLaws
 mod JoiningLaws
 mod StepLaws
 mod NamedLaws
+mod PutLaws

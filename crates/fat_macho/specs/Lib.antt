@@ -11,6 +11,8 @@ pub mod ShapeView
 pub mod LayoutView
 pub mod LayoutSteps
 pub mod Named
+pub mod FatBytes
+pub mod Writing
 pub mod Reading
 pub mod Parts
 pub mod Adding

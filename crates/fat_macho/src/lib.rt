@@ -21,6 +21,7 @@ mod reading;
 mod shape;
 mod steps;
 mod writer;
+mod writing;
 
 pub use error::{Error, InvalidCase, IoCause};
 pub use laws::layout_laws;
