@@ -21,3 +21,4 @@ mod JoiningLaws
 mod StepLaws
 mod NamedLaws
 mod PutLaws
+mod CopyLaws
