@@ -22,3 +22,4 @@ mod StepLaws
 mod NamedLaws
 mod PutLaws
 mod CopyLaws
+mod TableLaws

@@ -83,10 +83,10 @@ part_further x y z bytes i n p q = part_goes_on x y z bytes (drop i bytes) (take
 pub block_zeros : (block : List ℕ) (n : ℕ) → block ≡ replicate (length block) 0 → n ≤ length block → take n block ≡ replicate n 0
 block_zeros block n zeros few = ap (take n) zeros ∙ take-replicate n (length block) 0 few
 
-pub zeros_split : (left n : ℕ) → n ≤ left → replicate left 0 ≡ replicate n 0 ++ replicate (left - n) 0
+pub zeros_split : (left n : ℕ) → n ≤ left → replicate {A = ℕ} left 0 ≡ replicate {A = ℕ} n 0 ++ replicate {A = ℕ} (left - n) 0
 zeros_split left n few =
     let sum : left ≡ n + (left - n) = omega arith in
-    ap (λ (k : ℕ). replicate {A = ℕ} k 0) sum ∙ sym (replicate-append-replicate n (left - n) 0)
+    ap (λ (k : ℕ). replicate {A = ℕ} k 0) sum ∙ sym (replicate-append-replicate {A = ℕ} n (left - n) 0)
 
 pub zeros_go_on : (x y z : SinkData) (block : List ℕ) (count left n : ℕ) → Part x y (replicate count 0) (replicate left 0) → block ≡ replicate (length block) 0 → n ≤ length block → n ≤ left → Puts y z (take n block)
     → Part x z (replicate count 0) (replicate (left - n) 0)

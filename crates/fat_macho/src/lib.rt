@@ -20,6 +20,7 @@ mod read;
 mod reading;
 mod shape;
 mod steps;
+mod table;
 mod writer;
 mod writing;
 
