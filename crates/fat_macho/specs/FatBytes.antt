@@ -1,5 +1,5 @@
 -- The bytes of a fat file, one part behind the other: Apple's mach-o/fat.h.
-use Rattle.std.specs.Prelude.{ℕ, ◌+◌, Bool, List, [], ◌∷◌, ◌++◌, length, map, reverse, if◌then◌else◌}
+use Rattle.std.specs.Prelude.{ℕ, ◌+◌, ◌^◌, ◌<◌, Bool, List, [], ◌∷◌, ◌++◌, length, map, reverse, if◌then◌else◌}
 use Rattle.std.specs.Int.{next_multiple_of}
 use Rattle.byte_core.specs.LaidOut.{Aligned, laid_out}
 use Rattle.byte_core.specs.Number.{little_bytes}
@@ -45,3 +45,8 @@ unfoldable pub fat_bytes : List Slice → FatLayout → List ℕ
 fat_bytes slices layout =
     let start = fat_table_end layout.wide (length slices) in
     header_bytes layout.wide (length slices) ++ (rows_from layout.wide layout.align start (map shape_of slices) ++ contents_from layout.align start slices)
+
+-- the numbers of an architecture have 32 bits
+pub record FitsShape (a : Shape) : Type 0 where
+  pub cputype : a.cputype < 2 ^ 32
+  pub cpusubtype : a.cpusubtype < 2 ^ 32

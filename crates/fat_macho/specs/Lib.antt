@@ -13,6 +13,7 @@ pub mod LayoutSteps
 pub mod Named
 pub mod FatBytes
 pub mod Writing
+pub mod Filing
 pub mod Reading
 pub mod Parts
 pub mod Adding

@@ -8,6 +8,7 @@
 mod added;
 mod architecture;
 mod error;
+mod filing;
 mod held;
 mod input;
 mod joining;
