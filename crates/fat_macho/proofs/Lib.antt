@@ -23,3 +23,4 @@ mod NamedLaws
 mod PutLaws
 mod CopyLaws
 mod TableLaws
+mod FilingLaws

@@ -1,6 +1,7 @@
 -- What is written of a writer's slices.
 use Rattle.std.specs.Prelude.{◌≡◌, ℕ, List, map, drop, Option, Some, option_map}
-use Rattle.byte_core.specs.Streams.{SourceData, SinkData}
+use Rattle.std.specs.List.{AllZip}
+use Rattle.byte_core.specs.Streams.{SourceData, SinkData, ChangesFaults}
 use Rattle.fat_macho.specs.FatBytes.{contents_from, fat_bytes}
 use Rattle.fat_macho.specs.Held.{known_slices}
 use Rattle.fat_macho.specs.HeldViews.{held_list}
@@ -8,6 +9,10 @@ use Rattle.fat_macho.specs.Layout.{fat_layout}
 use Rattle.fat_macho.specs.Slices.{Slice, shape_of}
 use Rattle.fat_macho.specs.Writing.{Part}
 use Rattle.fat_macho.specs.declared.held.HeldSlice.{HeldSlice}
+
+-- no source has changed but in its count
+pub record ChangesSources (old new : List SourceData) : Type 0 where
+  pub each : AllZip ChangesFaults old new
 
 -- the slices from this place on, where all are known
 abbrev pub known_contents : List SourceData → ℕ → ℕ → List HeldSlice → Option (List ℕ)

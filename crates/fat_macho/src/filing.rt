@@ -1,15 +1,17 @@
 //! Writing of whole fat files.
 
-ghost use Rattle.std.specs.Prelude.{◌≡◌, ◌+◌, ◌++◌, ◌-◌, ◌^◌, ◌<◌, ◌≤◌, length, map, replicate, option_map, IfOk, OnOk, OnErr, IfErr};
+ghost use Rattle.std.specs.Prelude.{◌≡◌, ◌+◌, ◌++◌, ◌-◌, ◌^◌, ◌<◌, ◌≤◌, length, map, slice_get, replicate, option_map, IsSomeAnd, IfOk, OnOk, OnErr, IfErr};
 ghost use Rattle.std.specs.Int.{next_multiple_of};
-ghost use Rattle.std.specs.List.{AllByRecursion, AllZip};
+ghost use Rattle.std.specs.List.{AllByRecursion};
+ghost use Rattle.std.specs.Rc.{rc_slice_items};
 ghost use Rattle.byte_core.specs.Count.{Rose};
+ghost use Rattle.byte_core.specs.Number.{bytes_at};
 ghost use Rattle.byte_core.specs.Outside.{AppendsFront};
-ghost use Rattle.byte_core.specs.Streams.{HasLength, ChangesFaults};
+ghost use Rattle.byte_core.specs.Streams.{HasLength};
 ghost use Rattle.fat_macho.specs.FatBytes.{FitsShape, header_bytes, row_bytes, rows_from};
-ghost use Rattle.fat_macho.specs.Filing.{known_contents, known_file};
+ghost use Rattle.fat_macho.specs.Filing.{ChangesSources, known_contents, known_file};
 ghost use Rattle.fat_macho.specs.Held.{SomeRose};
-ghost use Rattle.fat_macho.specs.HeldViews.{raw_shape, known_bytes, faults_of, held_list, IsPlaced, IsWriter};
+ghost use Rattle.fat_macho.specs.HeldViews.{raw_shape, known_range, known_bytes, faults_in, faults_of, held_list, LiesInSource, IsPlaced, IsWriter};
 ghost use Rattle.fat_macho.specs.Layout.{end_from, sizes_of};
 ghost use Rattle.fat_macho.specs.Writing.{Puts, PutsKnown, FrontKnown, FailsBy};
 ghost use Rattle.fat_macho.specs.declared.error.Error.TheVariants.{Io};
@@ -23,6 +25,7 @@ use crate::steps::step_behind;
 use crate::table::{write_header, write_row};
 use crate::writing::{copy_range, write_all, write_zeros};
 use byte_core::{Sink, Source};
+use std::rc::RcSlice;
 
 /// Writes the fat file of slices in their order.
 pub fn write_fat<S: Source, W: Sink>(
@@ -34,7 +37,7 @@ pub fn write_fat<S: Source, W: Sink>(
     ensures ok { OnOk result (PutsKnown (known_file (map (λ s. S.source s) sources.old) slices.now) (W.sink sink.old) (W.sink sink.new)) }
     ensures front { OnErr result (FrontKnown (known_file (map (λ s. S.source s) sources.old) slices.now) (W.sink sink.old) (W.sink sink.new)) }
     ensures cause { IfErr result (FailsBy (SomeRose (held_list (map (λ s. S.source s) sources.old) slices.now) (held_list (map (λ s. S.source s) sources.new) slices.now)) (Rose (W.sink sink.old).faults (W.sink sink.new).faults)) }
-    ensures others { AllZip ChangesFaults (map (λ s. S.source s) sources.old) (map (λ s. S.source s) sources.new) }
+    ensures others { ChangesSources (map (λ s. S.source s) sources.old) (map (λ s. S.source s) sources.new) }
     ensures rises { (W.sink sink.old).faults ≤ (W.sink sink.new).faults }
     ensures fits { AllByRecursion FitsShape (map raw_shape slices.now) }
 {
@@ -126,7 +129,7 @@ fn write_slices<S: Source, W: Sink>(
     ensures ok { OnOk result (PutsKnown (known_contents (map (λ s. S.source s) sources.old) align start slices.now) (W.sink sink.old) (W.sink sink.new)) }
     ensures front { OnErr result (FrontKnown (known_contents (map (λ s. S.source s) sources.old) align start slices.now) (W.sink sink.old) (W.sink sink.new)) }
     ensures cause { IfErr result (FailsBy (SomeRose (held_list (map (λ s. S.source s) sources.old) slices.now) (held_list (map (λ s. S.source s) sources.new) slices.now)) (Rose (W.sink sink.old).faults (W.sink sink.new).faults)) }
-    ensures others { AllZip ChangesFaults (map (λ s. S.source s) sources.old) (map (λ s. S.source s) sources.new) }
+    ensures others { ChangesSources (map (λ s. S.source s) sources.old) (map (λ s. S.source s) sources.new) }
     ensures rises { (W.sink sink.old).faults ≤ (W.sink sink.new).faults }
 {
     let mut end = start;
@@ -137,6 +140,7 @@ fn write_slices<S: Source, W: Sink>(
 }
 
 // Writes a gap behind this place and then the slice, and answers where the slice ends.
+#[tactic(auto, using(crate::proofs::FilingLaws::sources_same))]
 fn write_next<S: Source, W: Sink>(
     sources: &mut [S],
     sink: &mut W,
@@ -151,7 +155,7 @@ fn write_next<S: Source, W: Sink>(
     ensures ok { OnOk result (PutsKnown (option_map (λ b. replicate (next_multiple_of end align - end) 0 ++ b) (known_bytes (map (λ s. S.source s) sources.old) (slice.now).bytes)) (W.sink sink.old) (W.sink sink.new)) }
     ensures front { OnErr result (FrontKnown (option_map (λ b. replicate (next_multiple_of end align - end) 0 ++ b) (known_bytes (map (λ s. S.source s) sources.old) (slice.now).bytes)) (W.sink sink.old) (W.sink sink.new)) }
     ensures cause { IfErr result (FailsBy (Rose (faults_of (map (λ s. S.source s) sources.old) (slice.now).bytes) (faults_of (map (λ s. S.source s) sources.new) (slice.now).bytes)) (Rose (W.sink sink.old).faults (W.sink sink.new).faults)) }
-    ensures others { AllZip ChangesFaults (map (λ s. S.source s) sources.old) (map (λ s. S.source s) sources.new) }
+    ensures others { ChangesSources (map (λ s. S.source s) sources.old) (map (λ s. S.source s) sources.new) }
     ensures rises { (W.sink sink.old).faults ≤ (W.sink sink.new).faults }
 {
     let step = step_behind(end, align, slice.size());
@@ -161,6 +165,7 @@ fn write_next<S: Source, W: Sink>(
 }
 
 // Writes the bytes of a slice.
+#[tactic(auto, using(crate::proofs::FilingLaws::sources_same, crate::proofs::FilingLaws::placed_number))]
 fn write_slice<S: Source, W: Sink>(
     sources: &mut [S],
     sink: &mut W,
@@ -170,7 +175,7 @@ fn write_slice<S: Source, W: Sink>(
     ensures ok { OnOk result (PutsKnown (known_bytes (map (λ s. S.source s) sources.old) (slice.now).bytes) (W.sink sink.old) (W.sink sink.new)) }
     ensures front { OnErr result (FrontKnown (known_bytes (map (λ s. S.source s) sources.old) (slice.now).bytes) (W.sink sink.old) (W.sink sink.new)) }
     ensures cause { IfErr result (FailsBy (Rose (faults_of (map (λ s. S.source s) sources.old) (slice.now).bytes) (faults_of (map (λ s. S.source s) sources.new) (slice.now).bytes)) (Rose (W.sink sink.old).faults (W.sink sink.new).faults)) }
-    ensures others { AllZip ChangesFaults (map (λ s. S.source s) sources.old) (map (λ s. S.source s) sources.new) }
+    ensures others { ChangesSources (map (λ s. S.source s) sources.old) (map (λ s. S.source s) sources.new) }
     ensures rises { (W.sink sink.old).faults ≤ (W.sink sink.new).faults }
 {
     match &slice.bytes {
@@ -180,11 +185,39 @@ fn write_slice<S: Source, W: Sink>(
             bytes,
             offset,
             size,
-        } => write_all(sink, &bytes.as_slice()[*offset..*offset + *size]),
+        } => write_all(sink, shared_range(bytes, *offset, *size)),
         SliceBytes::InSource {
             number,
             offset,
             size,
-        } => copy_range(&mut sources[*number], sink, *offset, *size),
+        } => copy_from(sources, sink, *number, *offset, *size),
     }
+}
+
+// A range of bytes that others share.
+#[tactic(auto, unfolding(byte_core::specs::Number::bytes_at))]
+fn shared_range(bytes: &RcSlice<u8>, offset: usize, size: usize) -> &[u8]
+    requires { offset + size ≤ length (rc_slice_items bytes.now) }
+    ensures { result.now ≡ bytes_at (rc_slice_items bytes.now) offset size }
+{
+    &bytes.as_slice()[offset..offset + size]
+}
+
+// Writes the bytes of a range of the source of this number.
+fn copy_from<S: Source, W: Sink>(
+    sources: &mut [S],
+    sink: &mut W,
+    number: usize,
+    offset: u64,
+    size: u64,
+) -> Result<(), Error>
+    requires number { number < length sources.old }
+    requires inside { IsSomeAnd (slice_get (map (λ s. S.source s) sources.old) number) (λ s. LiesInSource s offset size) }
+    ensures ok { OnOk result (PutsKnown (known_range (slice_get (map (λ s. S.source s) sources.old) number) offset size) (W.sink sink.old) (W.sink sink.new)) }
+    ensures front { OnErr result (FrontKnown (known_range (slice_get (map (λ s. S.source s) sources.old) number) offset size) (W.sink sink.old) (W.sink sink.new)) }
+    ensures cause { IfErr result (FailsBy (Rose (faults_in (slice_get (map (λ s. S.source s) sources.old) number)) (faults_in (slice_get (map (λ s. S.source s) sources.new) number))) (Rose (W.sink sink.old).faults (W.sink sink.new).faults)) }
+    ensures others { ChangesSources (map (λ s. S.source s) sources.old) (map (λ s. S.source s) sources.new) }
+    ensures rises { (W.sink sink.old).faults ≤ (W.sink sink.new).faults }
+{
+    copy_range(&mut sources[number], sink, offset, size)
 }
