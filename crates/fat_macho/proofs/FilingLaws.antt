@@ -203,3 +203,11 @@ known_length ss (lies.Borrowed r) b all placed e = let same : r.now ≡ b = cc i
 known_length ss (lies.Owned r) b all placed e = let same : r.items ≡ b = cc in ap length (sym same)
 known_length ss (lies.Shared r o t) b all placed e = let same : bytes_at (rc_slice_items r) o t ≡ b = cc in ap length (sym same) ∙ range_len (rc_slice_items r) o t placed
 known_length ss (lies.InSource n o t) b all placed e = range_length (slice_get ss n) b o t (get_length ss n (λ s. LiesInSource s o t) all placed) placed e
+
+-- the count of a source rose
+pub source_rose : {S : Type 0} (source : S → SourceData) (xs : List S) (n : ℕ) (d x : S) → n < length xs → Rose (source (slice_index_or xs n d)).faults (source x).faults
+    → Rose (faults_in (slice_get (map source xs) n)) (faults_in (slice_get (map source (slice_set xs n x)) n))
+source_rose source xs n d x inside rose =
+    let was : faults_in (slice_get (map source xs) n) ≡ (source (slice_index_or xs n d)).faults = ap faults_in (source_get source xs n d inside) in
+    let is : faults_in (slice_get (map source (slice_set xs n x)) n) ≡ (source x).faults = ap faults_in (source_now source xs n x inside) in
+    omega (arith, was, is, rose)

@@ -24,3 +24,4 @@ mod PutLaws
 mod CopyLaws
 mod TableLaws
 mod FilingLaws
+mod LaysLaws
