@@ -13,8 +13,11 @@ use Rattle.fat_macho.specs.Layout.{end_from, sizes_of}
 use Rattle.fat_macho.specs.Slices.{Slice, Shape}
 use Rattle.fat_macho.specs.Writing.{Puts, PutsKnown, FrontKnown, Part}
 use Rattle.fat_macho.specs.declared.held.HeldSlice.{HeldSlice}
+use Rattle.std.proofs.lemmas.List.{drop_all}
 use Rattle.fat_macho.proofs.FilingLaws.{known_same, known_length}
-use Rattle.fat_macho.proofs.PutLaws.{part_begins, part_goes_on, part_ends, part_fails_in}
+use Rattle.fat_macho.proofs.StepLaws.{end_within}
+use Rattle.fat_macho.proofs.CopyLaws.{puts_mapped, front_mapped}
+use Rattle.fat_macho.proofs.PutLaws.{part_begins, part_goes_on, part_ends, part_fails_in, puts_again, front_before, front_behind}
 
 -- -- the first of those that are known
 
@@ -116,3 +119,51 @@ rows_split wide align end a rest = refl
 pub rows_none : (wide : Bool) (align end : ℕ) → rows_from wide align end [] ≡ []
 unfolding rows_from
 rows_none wide align end = refl
+
+-- -- a gap and a slice
+
+gap_is : (align end offset : ℕ) → offset ≡ next_multiple_of end align → replicate {A = ℕ} (offset - end) 0 ≡ replicate {A = ℕ} (next_multiple_of end align - end) 0
+gap_is align end offset is = ap (λ (n : ℕ). replicate {A = ℕ} (n - end) 0) is
+
+pub gap_puts : (o : Option (List ℕ)) (align end offset : ℕ) (x y z : SinkData) → offset ≡ next_multiple_of end align → Puts x y (replicate (offset - end) 0) → PutsKnown o y z → PutsKnown (option_map (gapped align end) o) x z
+gap_puts o align end offset x y z is zeros puts =
+    puts_mapped (gapped align end) o x z (λ b e. puts_again (replicate (next_multiple_of end align - end) 0) b x y z (subst (Puts x y) (gap_is align end offset is) zeros) (puts.known b e))
+
+pub gap_fails : (o : Option (List ℕ)) (align end offset : ℕ) (x y : SinkData) → offset ≡ next_multiple_of end align → AppendsFront x.written y.written (replicate (offset - end) 0) → FrontKnown (option_map (gapped align end) o) x y
+gap_fails o align end offset x y is front =
+    front_mapped (gapped align end) o x y (λ b e. front_before (replicate (next_multiple_of end align - end) 0) b x y (subst (AppendsFront x.written y.written) (gap_is align end offset is) front))
+
+pub gap_front : (o : Option (List ℕ)) (align end offset : ℕ) (x y z : SinkData) → offset ≡ next_multiple_of end align → Puts x y (replicate (offset - end) 0) → FrontKnown o y z → FrontKnown (option_map (gapped align end) o) x z
+gap_front o align end offset x y z is zeros front =
+    front_mapped (gapped align end) o x z (λ b e. front_behind (replicate (next_multiple_of end align - end) 0) b x y z (subst (Puts x y) (gap_is align end offset is) zeros) (front.known b e))
+
+-- the next entry was written
+rows_cut : (wide : Bool) (align end next : ℕ) (h : HeldSlice) (rest more : List HeldSlice) → rest ≡ h ∷ more → next ≡ next_multiple_of end align + (raw_shape h).size
+    → rows_from wide align end (map raw_shape rest) ≡ row_bytes wide align (raw_shape h) (next_multiple_of end align) ++ rows_from wide align next (map raw_shape more)
+rows_cut wide align end next h rest more split is =
+    ap (λ r. rows_from wide align end (map raw_shape r)) split ∙ rows_split wide align end (raw_shape h) (map raw_shape more)
+    ∙ ap (λ n. row_bytes wide align (raw_shape h) (next_multiple_of end align) ++ rows_from wide align n (map raw_shape more)) (sym is)
+
+pub rows_on : (wide : Bool) (align end next : ℕ) (h : HeldSlice) (rest more : List HeldSlice) (all : List ℕ) (x y z : SinkData) → Part x y all (rows_from wide align end (map raw_shape rest)) → rest ≡ h ∷ more
+    → next ≡ next_multiple_of end align + (raw_shape h).size → Puts y z (row_bytes wide align (raw_shape h) (next_multiple_of end align)) → Part x z all (rows_from wide align next (map raw_shape more))
+rows_on wide align end next h rest more all x y z p split is puts = part_goes_on x y z all (rows_from wide align end (map raw_shape rest)) (row_bytes wide align (raw_shape h) (next_multiple_of end align)) (rows_from wide align next (map raw_shape more)) p (rows_cut wide align end next h rest more split is) puts
+
+pub rows_fail : (wide : Bool) (align end : ℕ) (h : HeldSlice) (rest more : List HeldSlice) (all : List ℕ) (x y z : SinkData) → Part x y all (rows_from wide align end (map raw_shape rest)) → rest ≡ h ∷ more
+    → AppendsFront y.written z.written (row_bytes wide align (raw_shape h) (next_multiple_of end align)) → AppendsFront x.written z.written all
+rows_fail wide align end h rest more all x y z p split front =
+    part_fails_in x y z all (rows_from wide align end (map raw_shape rest)) (row_bytes wide align (raw_shape h) (next_multiple_of end align)) _ p (rows_cut wide align end _ h rest more split refl) front
+
+pub rows_end : (wide : Bool) (align end : ℕ) (rest : List HeldSlice) (all : List ℕ) (x y : SinkData) → Part x y all (rows_from wide align end (map raw_shape rest)) → rest ≡ [] → Puts x y all
+rows_end wide align end rest all x y p none = part_ends x y all (rows_from wide align end (map raw_shape rest)) p (ap (λ r. rows_from wide align end (map raw_shape r)) none ∙ rows_none wide align end)
+
+-- where the slices end
+pub end_on : (align end next total : ℕ) (h : HeldSlice) (rest more : List HeldSlice) → end_from align end (sizes_of (map raw_shape rest)) ≡ total → rest ≡ h ∷ more → next ≡ next_multiple_of end align + (raw_shape h).size → end_from align next (sizes_of (map raw_shape more)) ≡ total
+end_on align end next total h rest more all split is = ap (λ n. end_from align n (sizes_of (map raw_shape more))) is ∙ ap (λ r. end_from align end (sizes_of (map raw_shape r))) (sym split) ∙ all
+
+pub end_room : (align end total limit : ℕ) (h : HeldSlice) (rest more : List HeldSlice) → end_from align end (sizes_of (map raw_shape rest)) ≡ total → rest ≡ h ∷ more → total < limit → next_multiple_of end align + (raw_shape h).size < limit
+end_room align end total limit h rest more all split short =
+    let last = end_on align end (next_multiple_of end align + (raw_shape h).size) total h rest more all split refl in
+    omega (arith, last, short, end_within align (next_multiple_of end align + (raw_shape h).size) (sizes_of (map raw_shape more)))
+
+pub none_left : {X : Type 0} (xs : List X) (i : ℕ) → length xs ≤ i → drop i xs ≡ []
+none_left xs i all = drop_all i xs all

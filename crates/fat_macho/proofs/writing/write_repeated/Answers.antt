@@ -6,7 +6,7 @@ pub returns-in_err-write_all-clause-front : goal.returns-in_err-write_all-clause
 returns-in_err-write_all-clause-front g c =
     let few : c.min-n.result ≤ length c.args.block.now = grind (arith, rules, c.min-n.ensures) in
     let some : c.min-n.result ≤ c.zeros.left = grind (arith, rules, c.min-n.ensures) in
-    on_err _ _ (zeros_fail _ _ _ c.args.block.now c.args.count c.zeros.left c.min-n.result c.zeros.invariant.written c.requires.zeros few some c.in_err-write_all.ensures.front)
+    on_err _ _ (zeros_fail _ (g.W.Sink.sink c.zeros.sink) (g.W.Sink.sink c.write_all.new.sink) c.args.block.now c.args.count c.zeros.left c.min-n.result c.zeros.invariant.written c.requires.zeros few some c.in_err-write_all.ensures.front)
 
 pub zeros-preserved : goal.zeros-preserved
 zeros-preserved g c =
