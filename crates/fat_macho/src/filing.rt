@@ -28,6 +28,7 @@ use byte_core::{Sink, Source};
 use std::rc::RcSlice;
 
 /// Writes the fat file of slices in their order.
+#[tactic(auto, using(crate::proofs::FilingLaws::sources_same))]
 pub fn write_fat<S: Source, W: Sink>(
     sources: &mut [S],
     sink: &mut W,
@@ -115,6 +116,7 @@ fn write_next_row<W: Sink>(
 }
 
 // Writes slices from this place on, each behind its gap.
+#[tactic(auto, using(crate::proofs::FilingLaws::sources_same, crate::proofs::FilingLaws::sources_again, crate::proofs::LaysLaws::lays_begin))]
 fn write_slices<S: Source, W: Sink>(
     sources: &mut [S],
     sink: &mut W,
