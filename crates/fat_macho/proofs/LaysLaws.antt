@@ -75,14 +75,14 @@ lays_on sources now align start end next slices rest more h x y z lays split cha
       record { left = f.rest; are_left = f.rest_is; part = part_goes_on x y z (contents_from align start all) (contents_from align end l.left) (gapped align end f.bytes) (contents_from align next f.rest) l.part cut put }
     }
 
-mapped_front : (f : List Slice → List ℕ) (o : Option (List Slice)) (x y : SinkData) → ((all : List Slice) → o ≡ Some all → AppendsFront x.written y.written (f all)) → FrontKnown (option_map f o) x y
+pub mapped_front : (f : List Slice → List ℕ) (o : Option (List Slice)) (x y : SinkData) → ((all : List Slice) → o ≡ Some all → AppendsFront x.written y.written (f all)) → FrontKnown (option_map f o) x y
 mapped_front f o x y each = record { known = λ b e. mapped_by o b each e }
   where
     mapped_by : (o : Option (List Slice)) (b : List ℕ) → ((all : List Slice) → o ≡ Some all → AppendsFront x.written y.written (f all)) → option_map f o ≡ Some b → AppendsFront x.written y.written b
     mapped_by None b each e = absurd (cc)
     mapped_by (Some all) b each e = let same : f all ≡ b = cc in subst (AppendsFront x.written y.written) same (each all refl)
 
-mapped_puts : (f : List Slice → List ℕ) (o : Option (List Slice)) (x y : SinkData) → ((all : List Slice) → o ≡ Some all → Puts x y (f all)) → PutsKnown (option_map f o) x y
+pub mapped_puts : (f : List Slice → List ℕ) (o : Option (List Slice)) (x y : SinkData) → ((all : List Slice) → o ≡ Some all → Puts x y (f all)) → PutsKnown (option_map f o) x y
 mapped_puts f o x y each = record { known = λ b e. mapped_by o b each e }
   where
     mapped_by : (o : Option (List Slice)) (b : List ℕ) → ((all : List Slice) → o ≡ Some all → Puts x y (f all)) → option_map f o ≡ Some b → Puts x y b

@@ -25,3 +25,4 @@ mod CopyLaws
 mod TableLaws
 mod FilingLaws
 mod LaysLaws
+mod FileLaws
