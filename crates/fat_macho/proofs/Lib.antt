@@ -26,3 +26,4 @@ mod TableLaws
 mod FilingLaws
 mod LaysLaws
 mod FileLaws
+mod HoldsLaws
