@@ -1,17 +1,21 @@
 -- What a written file holds, by its places.
-use Rattle.std.proofs.Common.{◌≡◌, ◌≢◌, ℕ, zero, suc, ◌+◌, ◌-◌, ◌*◌, ◌^◌, ◌<◌, ◌≤◌, ◌==◌, ◌⊎◌, inl, inr, Bool, true, false, List, [], ◌∷◌, ◌++◌, length, map, zip, take, replicate, reverse, get_or, slice_get, Option, Some, None, refl, ap, sym, ◌∙◌, arith, subst, if◌then◌else◌, length-append}
+use Rattle.std.proofs.Common.{◌≡◌, ◌≢◌, ℕ, zero, suc, ◌+◌, ◌-◌, ◌*◌, ◌^◌, ◌<◌, ◌≤◌, ◌==◌, ◌⊎◌, inl, inr, Bool, true, false, List, [], ◌∷◌, ◌++◌, length, map, zip, take, replicate, reverse, get_or, slice_get, Option, Some, None, refl, ap, sym, ◌∙◌, arith, subst, if◌then◌else◌, length-append, append_assoc}
 use Rattle.std.specs.Int.{next_multiple_of}
 use Rattle.std.specs.List.{All, AllByRecursion, range_with_len}
 use Rattle.std.proofs.lemmas.List.{length-map, length-reverse, reverse-reverse, length-replicate}
-use Rattle.std.proofs.lemmas.List.Elements.{All-append}
+use Rattle.std.proofs.Math.Seq.{take-append_seam}
+use Rattle.std.proofs.lemmas.Grind.{reverse_onto}
+use Rattle.std.proofs.lemmas.List.Elements.{All-nil, All-cons, All-append, All-head, All-tail}
+use Rattle.byte_core.proofs.Bytes.{bytes-little_bytes}
 use Rattle.byte_core.specs.LaidOut.{laid_out}
 use Rattle.byte_core.specs.Number.{bytes_at, big_number_at, little_number, little_bytes}
 use Rattle.byte_core.proofs.Numbers.{length-little_bytes, little_number-little_bytes}
-use Rattle.byte_core.proofs.Standing.{StandsAt, stands_front, stands_behind, stands_left, stands_right, stands_as, stands_inside, bytes_stand}
+use Rattle.byte_core.proofs.Standing.{StandsAt, stands_whole, stands_front, stands_behind, stands_left, stands_right, stands_as, stands_inside, bytes_stand}
 use Rattle.image_read.specs.FatFile.{FatEntry, fat_magic, fat_count, has_wide_entries, fat_entry_size, fat_table_end, narrow_entry_at, wide_entry_at, fat_entry}
-use Rattle.image_read.specs.FatImage.{FatSliceData, slice_data, fat_image_of, IsFat, FatReads}
+use Rattle.image_read.specs.FatImage.{FatSliceData, FatImageData, slice_data, fat_image_of, IsFat, FatReads}
 use Rattle.fat_macho.specs.FatBytes.{big_bytes, header_bytes, narrow_row, wide_row, row_bytes, rows_from, contents_from, fat_bytes, FitsShape}
 use Rattle.fat_macho.specs.FatHolds.{power_of, slice_at, image_with, free_from, IsZero, HoldsAt}
+use Rattle.fat_macho.specs.Held.{TableIsBytes}
 use Rattle.fat_macho.specs.Layout.{FatLayout, places_from, end_from, fat_layout, layout_of, greatest_align, sizes_of}
 use Rattle.fat_macho.specs.Slices.{Shape, Slice, shape_of}
 use Rattle.fat_macho.proofs.LayoutLaws.{next-over}
@@ -247,12 +251,140 @@ pub record FileStands (b : List ℕ) (wide : Bool) (align start total : ℕ) (sl
   pub end : length b ≡ total
   pub table : fat_table_end wide (length slices) ≤ length b
 
-header_stands : (b rest : List ℕ) (wide : Bool) (count : ℕ) → StandsAt b (header_bytes wide count ++ rest) 0 → count < 2 ^ 32 → (fat_magic b ≡ (if wide then 0xcafebabf else 0xcafebabe)) × (fat_count b ≡ count) × StandsAt b rest 8
+header_stands : (b rest : List ℕ) (wide : Bool) (count : ℕ) → StandsAt b (header_bytes wide count ++ rest) 0 → count < 2 ^ 32 → fat_magic b ≡ (if wide then 0xcafebabf else 0xcafebabe)
 unfolding header_bytes
-header_stands b rest wide count s few =
-    let header = stands_left b (big_bytes 4 (if wide then 0xcafebabf else 0xcafebabe) ++ big_bytes 4 count) rest 0 s in
-    let one = number_first b (big_bytes 4 count) 4 (if wide then 0xcafebabf else 0xcafebabe) 0 4 header (magic_fits wide) refl in
-    (one.number, big_stands b 4 count 4 one.behind few, stands_right b (big_bytes 4 (if wide then 0xcafebabf else 0xcafebabe) ++ big_bytes 4 count) rest 0 8 s (header_length))
-  where
-    header_length : 0 + length (big_bytes 4 (if wide then 0xcafebabf else 0xcafebabe) ++ big_bytes 4 count) ≡ 8
-    header_length = omega (arith, length-append (big_bytes 4 (if wide then 0xcafebabf else 0xcafebabe)) (big_bytes 4 count), length-big 4 (if wide then 0xcafebabf else 0xcafebabe), length-big 4 count)
+header_stands b rest wide count s few = (number_first b (big_bytes 4 count) 4 (if wide then 0xcafebabf else 0xcafebabe) 0 4 (stands_left b (header_bytes wide count) rest 0 s) (magic_fits wide) refl).number
+
+count_stands : (b rest : List ℕ) (wide : Bool) (count : ℕ) → StandsAt b (header_bytes wide count ++ rest) 0 → count < 2 ^ 32 → fat_count b ≡ count
+unfolding header_bytes
+count_stands b rest wide count s few = big_stands b 4 count 4 (number_first b (big_bytes 4 count) 4 (if wide then 0xcafebabf else 0xcafebabe) 0 4 (stands_left b (header_bytes wide count) rest 0 s) (magic_fits wide) refl).behind few
+
+table_start : (wide : Bool) → fat_table_end wide 0 ≡ 8
+table_start true = refl
+table_start false = refl
+
+from_start : (wide : Bool) (n : ℕ) → fat_table_end wide (0 + n) ≡ fat_table_end wide n
+from_start wide n = let same : 0 + n ≡ n = omega arith in ap (fat_table_end wide) same
+
+pub file_stands : (slices : List Slice) (wide : Bool) (align start total : ℕ) (b : List ℕ) → b ≡ header_bytes wide (length slices) ++ (rows_from wide align start (map shape_of slices) ++ contents_from align start slices) → start ≡ fat_table_end wide (length slices)
+    → end_from align start (sizes_of (map shape_of slices)) ≡ total → length slices < 2 ^ 32 → AllByRecursion FitsShape (map shape_of slices) → FitsWide wide total → FileStands b wide align start total slices
+file_stands slices wide align start total b is place last few fits limit =
+    let header : List ℕ = header_bytes wide (length slices) in
+    let rows : List ℕ = rows_from wide align start (map shape_of slices) in
+    let contents : List ℕ = contents_from align start slices in
+    let whole : StandsAt b (header ++ (rows ++ contents)) 0 = stands_as b b _ 0 0 (stands_whole b) is refl in
+    let behind = stands_right b header (rows ++ contents) 0 8 whole (ap (λ n. 0 + n) (length-header wide (length slices))) in
+    let table = stands_left b rows contents 8 behind in
+    let count : length (map shape_of slices) ≡ length slices = length-map slices shape_of in
+    let rows_len : 8 + length rows ≡ start = ap (λ n. n + length rows) (sym (table_start wide)) ∙ length-rows_from wide align start (map shape_of slices) 0 ∙ from_start wide (length (map shape_of slices)) ∙ ap (fat_table_end wide) count ∙ sym place in
+    let slices_stand = stands_right b rows contents 8 start behind rows_len in
+    let all_len : length b ≡ total =
+    omega (arith, ap length is, length-append header (rows ++ contents), length-append rows contents, length-header wide (length slices), rows_len, length-contents align start slices, last) in
+    record {
+      magic = header_stands b (rows ++ contents) wide (length slices) whole few;
+      count = count_stands b (rows ++ contents) wide (length slices) whole few;
+      stand = all_stand b wide align total start 0 slices (stands_as b rows rows 8 (fat_table_end wide 0) table refl (sym (table_start wide))) slices_stand fits (omega (arith, last)) limit;
+      end = all_len;
+      table = omega (arith, place, last, all_len, end_within align start (sizes_of (map shape_of slices)));
+    }
+
+-- the image of what stands there
+one_inside : (b : List ℕ) (wide : Bool) (align start total k : ℕ) (slices : List Slice) → FileStands b wide align start total slices → has_wide_entries b ≡ wide → k < length slices
+    → (fat_entry b (has_wide_entries b) k).offset + (fat_entry b (has_wide_entries b) k).size ≤ length b
+one_inside b wide align start total k slices f w below =
+    let o = one_stands b wide align start 0 k slices f.stand below in
+    let same : 0 + k ≡ k = omega arith in
+    let e : fat_entry b (has_wide_entries b) k ≡ entry_with align (shape_of o.slice) (next_multiple_of o.end align) = ap (λ x. fat_entry b x k) w ∙ ap (fat_entry b wide) (sym same) ∙ o.stands.entry in
+    rw e o.stands.inside
+
+reserved_none : (b : List ℕ) (wide : Bool) (align start total k : ℕ) (slices : List Slice) → FileStands b wide align start total slices → k < length slices → (fat_entry b wide k).reserved ≡ 0
+reserved_none b wide align start total k slices f below =
+    let o = one_stands b wide align start 0 k slices f.stand below in
+    let same : k ≡ 0 + k = omega arith in
+    ap (λ n. (fat_entry b wide n).reserved) same ∙ ap (λ (x : FatEntry). x.reserved) o.stands.entry
+
+image_is : (b : List ℕ) (wide : Bool) (align start total : ℕ) (slices : List Slice) (offsets : List ℕ) → FileStands b wide align start total slices → has_wide_entries b ≡ wide → offsets ≡ places_from align start (sizes_of (map shape_of slices))
+    → record { is_fat64 = wide; slices = map (slice_at align) (zip slices offsets) } ≡ fat_image_of b
+unfolding fat_image_of
+image_is b wide align start total slices offsets f w at =
+    ap (λ os. let i : FatImageData = record { is_fat64 = wide; slices = map (slice_at align) (zip slices os) } in i) at
+    ∙ ap (λ xs. let i : FatImageData = record { is_fat64 = wide; slices = xs } in i) (slices_are b wide align start 0 slices w f.stand)
+    ∙ ap (λ n. let i : FatImageData = record { is_fat64 = wide; slices = map (slice_data b) (range_with_len 0 n) } in i) (sym f.count)
+    ∙ ap (λ x. let i : FatImageData = record { is_fat64 = x; slices = map (slice_data b) (range_with_len 0 (fat_count b)) } in i) (sym w)
+
+pub holds_at : (b : List ℕ) (start : ℕ) (slices : List Slice) (l : FatLayout) → FileStands b l.wide l.align start l.total slices → start ≡ fat_table_end l.wide (length slices) → l.offsets ≡ places_from l.align start (sizes_of (map shape_of slices)) → HoldsAt b slices l
+holds_at b start slices l f place at =
+    let m = magic_by b l.wide f.magic in
+    let free : (k : ℕ) → free_by slices (places_from l.align start (sizes_of (map shape_of slices))) start k ≡ free_from slices l k = λ k. ap (λ os. free_by slices os start k) (sym at) ∙ ap (λ p. free_by slices l.offsets p k) place in
+    record {
+      image = record {
+        file = record {
+          header = omega (arith, f.table);
+          magic = m.1;
+          table = rw (m.0, f.count) f.table;
+          slices = λ k below. one_inside b l.wide l.align start l.total k slices f m.0 (omega (arith, below, f.count));
+        };
+        rows = image_is b l.wide l.align start l.total slices l.offsets f m.0 at;
+      };
+      reserved = λ k below. reserved_none b l.wide l.align start l.total k slices f below;
+      gaps = λ k offset e. subst (λ p. IsZero b p offset) (free k) (gaps_are b l.wide l.align start 0 slices f.stand k offset (ap (λ os. slice_get os k) (sym at) ∙ e));
+      end = f.end;
+    }
+
+-- -- the bytes of the table
+
+abbrev AreBytes : List ℕ → Type 0
+AreBytes xs = All (λ x. x < 256) xs
+
+bytes_turned : (xs : List ℕ) → AreBytes xs → AreBytes (reverse xs)
+bytes_turned [] h = h
+bytes_turned (x ∷ xs) h = subst AreBytes (sym (reverse_onto xs x [])) (All-append (λ x. x < 256) (reverse xs) (x ∷ []) (bytes_turned xs (All-tail (λ x. x < 256) x xs h)) (All-cons (λ x. x < 256) x [] (All-head (λ x. x < 256) x xs h) (All-nil (λ x. x < 256))))
+
+bytes-big : (w n : ℕ) → AreBytes (big_bytes w n)
+unfolding big_bytes
+bytes-big w n = bytes_turned (little_bytes w n) (bytes-little_bytes w n)
+
+both : (xs ys : List ℕ) → AreBytes xs → AreBytes ys → AreBytes (xs ++ ys)
+both xs ys h k = All-append (λ x. x < 256) xs ys h k
+
+bytes-header : (wide : Bool) (count : ℕ) → AreBytes (header_bytes wide count)
+unfolding header_bytes
+bytes-header wide count = both (big_bytes 4 (if wide then 0xcafebabf else 0xcafebabe)) (big_bytes 4 count) (bytes-big 4 (if wide then 0xcafebabf else 0xcafebabe)) (bytes-big 4 count)
+
+bytes-narrow : (align : ℕ) (a : Shape) (offset : ℕ) → AreBytes (narrow_row align a offset)
+unfolding narrow_row
+bytes-narrow align a offset =
+    both (big_bytes 4 a.cputype) _ (bytes-big 4 a.cputype) (both (big_bytes 4 a.cpusubtype) _ (bytes-big 4 a.cpusubtype) (both (big_bytes 4 offset) _ (bytes-big 4 offset) (both (big_bytes 4 a.size) (big_bytes 4 (power_of align)) (bytes-big 4 a.size) (bytes-big 4 (power_of align)))))
+
+bytes-wide : (align : ℕ) (a : Shape) (offset : ℕ) → AreBytes (wide_row align a offset)
+unfolding wide_row
+bytes-wide align a offset =
+    both (big_bytes 4 a.cputype) _ (bytes-big 4 a.cputype) (both (big_bytes 4 a.cpusubtype) _ (bytes-big 4 a.cpusubtype) (both (big_bytes 8 offset) _ (bytes-big 8 offset)
+            (both (big_bytes 8 a.size) _ (bytes-big 8 a.size) (both (big_bytes 4 (power_of align)) (big_bytes 4 0) (bytes-big 4 (power_of align)) (bytes-big 4 0)))))
+
+bytes-row : (wide : Bool) (align : ℕ) (a : Shape) (offset : ℕ) → AreBytes (row_bytes wide align a offset)
+bytes-row true align a offset = bytes-wide align a offset
+bytes-row false align a offset = bytes-narrow align a offset
+
+bytes-rows : (wide : Bool) (align end : ℕ) (shapes : List Shape) → AreBytes (rows_from wide align end shapes)
+unfolding rows_from
+bytes-rows wide align end [] = All-nil (λ x. x < 256)
+bytes-rows wide align end (a ∷ shapes) =
+    both (row_bytes wide align a (next_multiple_of end align)) (rows_from wide align (next_multiple_of end align + a.size) shapes) (bytes-row wide align a (next_multiple_of end align)) (bytes-rows wide align (next_multiple_of end align + a.size) shapes)
+
+-- the table of a file
+table_front : (b header rows contents : List ℕ) (n : ℕ) → b ≡ header ++ (rows ++ contents) → n ≡ length (header ++ rows) → take n b ≡ header ++ rows
+table_front b header rows contents n is len =
+    ap (take n) (is ∙ sym (append_assoc header rows contents)) ∙ ap (λ k. take k ((header ++ rows) ++ contents)) len ∙ take-append_seam (header ++ rows) contents
+
+pub table_is_bytes : (slices : List Slice) (wide : Bool) (align start total : ℕ) (b : List ℕ) → b ≡ header_bytes wide (length slices) ++ (rows_from wide align start (map shape_of slices) ++ contents_from align start slices)
+    → FileStands b wide align start total slices → TableIsBytes b
+table_is_bytes slices wide align start total b is f =
+    let m = magic_by b wide f.magic in
+    let header : List ℕ = header_bytes wide (length slices) in
+    let rows : List ℕ = rows_from wide align start (map shape_of slices) in
+    let count : length (map shape_of slices) ≡ length slices = length-map slices shape_of in
+    let rows_len : 8 + length rows ≡ fat_table_end wide (length slices) = ap (λ n. n + length rows) (sym (table_start wide)) ∙ length-rows_from wide align start (map shape_of slices) 0 ∙ from_start wide (length (map shape_of slices)) ∙ ap (fat_table_end wide) count in
+    let len : fat_table_end (has_wide_entries b) (fat_count b) ≡ length (header ++ rows) =
+    ap (λ x. fat_table_end x (fat_count b)) m.0 ∙ ap (fat_table_end wide) f.count ∙ (omega (arith, rows_len, length-append header rows, length-header wide (length slices))) in
+    subst AreBytes (sym (table_front b header rows (contents_from align start slices) _ is len)) (both header rows (bytes-header wide (length slices)) (bytes-rows wide align start (map shape_of slices)))

@@ -27,3 +27,4 @@ mod FilingLaws
 mod LaysLaws
 mod FileLaws
 mod HoldsLaws
+mod TakenLaws
