@@ -1,11 +1,13 @@
 -- Sources whose counts rise.
-use Rattle.std.proofs.Common.{◌≡◌, ℕ, zero, suc, ◌+◌, ◌<◌, ◌≤◌, List, [], ◌∷◌, ◌++◌, length, map, slice_get, Option, Some, None, option_map, IsSomeAnd, IfSome, refl, ap, sym, ◌∙◌, arith, subst}
+use Rattle.std.proofs.Common.{◌≡◌, ℕ, zero, suc, ◌+◌, ◌<◌, ◌≤◌, List, [], ◌∷◌, ◌++◌, length, map, take, drop, slice_get, Option, Some, None, option_map, IsSomeAnd, IfSome, refl, ap, sym, ◌∙◌, arith, subst}
 use Rattle.std.specs.Prelude.{slice_index_or, slice_set}
 use Rattle.std.specs.List.{AllByRecursion, AllZip}
 use Rattle.std.specs.Rc.{rc_slice_items}
 use Rattle.byte_core.specs.Count.{Rose}
 use Rattle.byte_core.specs.Number.{bytes_at}
 use Rattle.byte_core.specs.Streams.{SourceData, HasLength, ChangesFaults}
+use Rattle.std.proofs.Math.Seq.{take-append_seam}
+use Rattle.std.proofs.lemmas.List.{length-map}
 use Rattle.fat_macho.specs.Filing.{ChangesSources}
 use Rattle.fat_macho.specs.Held.{Held, IsSameHeld, KeepsSlices, SomeRose}
 use Rattle.fat_macho.specs.HeldViews.{origin_of, size_of_slice, known_range, known_bytes, faults_in, faults_of, raw_shape, held_view, held_list, LiesInSource, IsPlaced, IsWriter}
@@ -211,3 +213,15 @@ source_rose source xs n d x inside rose =
     let was : faults_in (slice_get (map source xs) n) ≡ (source (slice_index_or xs n d)).faults = ap faults_in (source_get source xs n d inside) in
     let is : faults_in (slice_get (map source (slice_set xs n x)) n) ≡ (source x).faults = ap faults_in (source_now source xs n x inside) in
     omega (arith, was, is, rose)
+
+each_count : (a b : List SourceData) → AllZip ChangesFaults a b → length b ≡ length a
+each_count [] [] h = refl
+each_count [] (y ∷ b) h = absurd h
+each_count (x ∷ a) [] h = absurd h
+each_count (x ∷ a) (y ∷ b) h = ap suc (each_count a b h.1)
+
+-- a list of sources that was lent whole is what it became
+pub lent_back : {S : Type 0} (source : S → SourceData) (old new : List S) (len : ℕ) → len ≡ length old → ChangesSources (map source old) (map source new) → take len (new ++ drop (length new) old) ≡ new
+lent_back source old new len is h =
+    let count : len ≡ length new = omega (arith, is, each_count (map source old) (map source new) h.each, length-map old source, length-map new source) in
+    ap (λ n. take n (new ++ drop (length new) old)) count ∙ take-append_seam new (drop (length new) old)

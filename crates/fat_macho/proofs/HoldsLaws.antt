@@ -202,12 +202,28 @@ one_stands b wide align end k (suc j) (s ∷ slices) all below =
 abbrev free_by : List Slice → List ℕ → ℕ → ℕ → ℕ
 free_by slices offsets end k = if k == 0 then end else get_or offsets (k - 1) 0 + length (get_or (map (λ (s : Slice). s.bytes) slices) (k - 1) [])
 
+free_past : (slices : List Slice) (offsets : List ℕ) (end k : ℕ) → (k == 0) ≡ false → free_by slices offsets end k ≡ get_or offsets (k - 1) 0 + length (get_or (map (λ (s : Slice). s.bytes) slices) (k - 1) [])
+free_past slices offsets end k e = ap (λ t. if t then end else get_or offsets (k - 1) 0 + length (get_or (map (λ (s : Slice). s.bytes) slices) (k - 1) [])) e
+
+free_later : (s : Slice) (slices : List Slice) (o : ℕ) (offsets : List ℕ) (end next k : ℕ) → free_by (s ∷ slices) (o ∷ offsets) end (suc (suc k)) ≡ free_by slices offsets next (suc k)
+free_later s slices o offsets end next k =
+    let two : suc (suc k) - 1 ≡ suc k = omega arith in
+    let one : suc k - 1 ≡ k = omega arith in
+    let first : (suc (suc k) == 0) ≡ false = grind arith in
+    let second : (suc k == 0) ≡ false = grind arith in
+    free_past (s ∷ slices) (o ∷ offsets) end (suc (suc k)) first
+    ∙ ap (λ n. get_or (o ∷ offsets) n 0 + length (get_or (map (λ (s : Slice). s.bytes) (s ∷ slices)) n [])) two
+    ∙ sym (free_past slices offsets next (suc k) second ∙ ap (λ n. get_or offsets n 0 + length (get_or (map (λ (s : Slice). s.bytes) slices) n [])) one)
+
 gaps_are : (b : List ℕ) (wide : Bool) (align end j : ℕ) (slices : List Slice) → AllStand b wide align end j slices
     → (k offset : ℕ) → slice_get (places_from align end (sizes_of (map shape_of slices))) k ≡ Some offset → IsZero b (free_by slices (places_from align end (sizes_of (map shape_of slices))) end k) offset
 gaps_are b wide align end j [] all k offset e = absurd (cc)
 gaps_are b wide align end j (s ∷ slices) all zero offset e = let same : next_multiple_of end align ≡ offset = cc in subst (IsZero b end) same all.0.gap
 gaps_are b wide align end j (s ∷ slices) all (suc zero) offset e = gaps_are b wide align (next_multiple_of end align + length s.bytes) (j + 1) slices all.1 0 offset e
-gaps_are b wide align end j (s ∷ slices) all (suc (suc k)) offset e = gaps_are b wide align (next_multiple_of end align + length s.bytes) (j + 1) slices all.1 (suc k) offset e
+gaps_are b wide align end j (s ∷ slices) all (suc (suc k)) offset e =
+    let next : ℕ = next_multiple_of end align + length s.bytes in
+    let later = free_later s slices (next_multiple_of end align) (places_from align next (sizes_of (map shape_of slices))) end next k in
+    subst (λ p. IsZero b p offset) (sym later) (gaps_are b wide align (next_multiple_of end align + length s.bytes) (j + 1) slices all.1 (suc k) offset e)
 
 -- -- the file
 

@@ -1,5 +1,5 @@
 -- What a sink has taken of a writer's file.
-use Rattle.std.proofs.Common.{◌≡◌, ℕ, ◌+◌, ◌^◌, ◌<◌, ◌≤◌, ◌×◌, Bool, true, false, List, [], ◌∷◌, ◌++◌, length, map, Option, Some, None, option_map, IfSome, refl, ap, sym, ◌∙◌, arith, subst, if◌then◌else◌}
+use Rattle.std.proofs.Common.{◌≡◌, ℕ, ◌+◌, ◌^◌, ◌<◌, ◌≤◌, Bool, true, false, List, [], ◌∷◌, ◌++◌, length, map, Option, Some, None, option_map, IfSome, refl, ap, sym, ◌∙◌, arith, subst, if◌then◌else◌}
 use Rattle.std.specs.Prelude.{nat_lt}
 use Rattle.std.specs.List.{All, AllByRecursion}
 use Rattle.std.proofs.lemmas.List.{length-map}
@@ -16,7 +16,10 @@ use Rattle.fat_macho.specs.HeldViews.{raw_shape, held_list, AreOthers, IsWriter}
 use Rattle.fat_macho.specs.Layout.{FatLayout, places_from, end_from, layout_of, fitting_layout, fat_layout, greatest_align, sizes_of, total_of}
 use Rattle.fat_macho.specs.Parts.{Pairwise}
 use Rattle.fat_macho.specs.Slices.{Shape, Slice, shape_of, slice_before, by_shape, in_order_by, in_order}
-use Rattle.fat_macho.specs.Writing.{Puts, PutsKnown, FrontKnown}
+use Rattle.fat_macho.specs.Writing.{Puts, PutsKnown, FrontKnown, FailsBy}
+use Rattle.fat_macho.specs.declared.error.Error.{Error}
+use Rattle.fat_macho.specs.declared.error.Error.TheVariants.{Io}
+use Rattle.fat_macho.specs.declared.error.IoCause.TheVariants.{Source}
 use Rattle.fat_macho.specs.declared.held.HeldSlice.{HeldSlice}
 use Rattle.fat_macho.proofs.FileLaws.{known_shapes}
 use Rattle.fat_macho.proofs.HoldsLaws.{FitsWide, FileStands, file_stands, holds_at, table_is_bytes}
@@ -146,3 +149,7 @@ pub takes_none : (sources : List SourceData) (slices : List HeldSlice) (x : Sink
 unfolding in_order
 takes_none sources [] x none = record { file = ([], All-nil (λ x. x < 256), refl, (puts_nothing x).put) }
 takes_none sources (h ∷ slices) x none = absurd (omega (arith, none))
+
+-- the error of a failed write tells which call failed
+pub read_rose : (P Q : Type 0) (e : Error) → FailsBy P Q e → e ≡ Io Source → P
+read_rose P Q e h same = rw same at h
