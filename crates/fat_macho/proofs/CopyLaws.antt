@@ -1,10 +1,10 @@
 -- What a sink takes of a source.
-use Rattle.std.proofs.Common.{◌≡◌, ℕ, ◌+◌, ◌-◌, ◌<◌, ◌≤◌, min, List, [], ◌++◌, length, take, Option, Some, None, option_map, Result, Ok, Err, refl, ap, sym, ◌∙◌, arith, subst}
+use Rattle.std.proofs.Common.{◌≡◌, ℕ, ◌+◌, ◌-◌, ◌≤◌, min, List, ◌++◌, length, take, Option, Some, None, option_map, refl, ap, ◌∙◌, arith, subst}
 use Rattle.std.proofs.lemmas.List.{length-take}
 use Rattle.byte_core.specs.Count.{Rose}
 use Rattle.byte_core.specs.Number.{bytes_at}
 use Rattle.byte_core.specs.Outside.{AppendsFront}
-use Rattle.byte_core.specs.Streams.{SourceData, SinkData, ChangesFaults}
+use Rattle.byte_core.specs.Streams.{SinkData}
 use Rattle.fat_macho.specs.Reading.{HoldsRange}
 use Rattle.fat_macho.specs.Writing.{Puts, PutsKnown, FrontKnown, Part, Copies, FailsBy}
 use Rattle.fat_macho.specs.declared.error.Error.{Error}
@@ -61,9 +61,9 @@ pub copies_begin : (o : Option (List ℕ)) (x : SinkData) (offset size : ℕ) �
 copies_begin o x offset size =
     record {
       known = λ b e.
-      let place : offset ≡ offset + 0 = omega arith in
-      let all : size ≡ size - 0 = omega arith in
-      subst (Part x x (bytes_at b offset size)) (ap (λ p. bytes_at b p size) place ∙ ap (bytes_at b (offset + 0)) all) (part_begins x (bytes_at b offset size))
+          let place : offset ≡ offset + 0 = omega arith in
+          let all : size ≡ size - 0 = omega arith in
+          subst (Part x x (bytes_at b offset size)) (ap (λ p. bytes_at b p size) place ∙ ap (bytes_at b (offset + 0)) all) (part_begins x (bytes_at b offset size));
     }
 
 left_split : (b : List ℕ) (offset size done n : ℕ) → done + n ≤ size → bytes_at b (offset + done) (size - done) ≡ bytes_at b (offset + done) n ++ bytes_at b (offset + (done + n)) (size - (done + n))
@@ -76,8 +76,8 @@ pub copies_on : (o q : Option (List ℕ)) (x y z : SinkData) (offset size done n
 copies_on o q x y z offset size done n m c same len inside p =
     record {
       known = λ b e.
-      part_goes_on x y z (bytes_at b offset size) (bytes_at b (offset + done) (size - done)) (bytes_at b (offset + done) n) (bytes_at b (offset + (done + n)) (size - (done + n))) (c.known b e) (left_split b offset size done n inside)
-      (p.known (bytes_at b (offset + done) n) (ap (option_map (λ b. bytes_at b (offset + done) m)) (same ∙ e) ∙ ap (λ k. Some (bytes_at b (offset + done) k)) len))
+          part_goes_on x y z (bytes_at b offset size) (bytes_at b (offset + done) (size - done)) (bytes_at b (offset + done) n) (bytes_at b (offset + (done + n)) (size - (done + n))) (c.known b e) (left_split b offset size done n inside)
+          (p.known (bytes_at b (offset + done) n) (ap (option_map (λ b. bytes_at b (offset + done) m)) (same ∙ e) ∙ ap (λ k. Some (bytes_at b (offset + done) k)) len));
     }
 
 pub copies_fail : (o q : Option (List ℕ)) (x y z : SinkData) (offset size done n m : ℕ) → Copies o x y offset size done → q ≡ o → m ≡ n → done + n ≤ size → FrontKnown (option_map (λ b. bytes_at b (offset + done) m) q) y z

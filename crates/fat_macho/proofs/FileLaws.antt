@@ -1,5 +1,5 @@
 -- A file is its table and its slices.
-use Rattle.std.proofs.Common.{◌≡◌, ℕ, ◌+◌, ◌^◌, ◌<◌, ◌≤◌, Bool, List, [], ◌∷◌, ◌++◌, length, map, Option, Some, None, option_map, refl, ap, sym, ◌∙◌, arith, subst, append_assoc}
+use Rattle.std.proofs.Common.{◌≡◌, ℕ, ◌^◌, ◌<◌, Bool, List, [], ◌∷◌, ◌++◌, length, map, Some, option_map, refl, ap, sym, ◌∙◌, arith, subst, append_assoc}
 use Rattle.std.specs.List.{AllByRecursion}
 use Rattle.std.proofs.lemmas.List.{length-map}
 use Rattle.byte_core.specs.Outside.{AppendsFront}
@@ -19,7 +19,7 @@ use Rattle.fat_macho.proofs.AddedLaws.{three}
 use Rattle.fat_macho.proofs.FilingLaws.{known_length}
 use Rattle.fat_macho.proofs.LaysLaws.{first_known, mapped_puts, mapped_front}
 use Rattle.fat_macho.proofs.PutLaws.{puts_again, front_before, front_behind}
-use Rattle.fat_macho.proofs.StepLaws.{StartsAt, starts_at, layout_short}
+use Rattle.fat_macho.proofs.StepLaws.{starts_at, layout_short}
 
 -- the shapes of known slices are those that are held
 pub known_shapes : (sources : List SourceData) (slices : List HeldSlice) (all : List Slice) → AllByRecursion HasLength sources → AllByRecursion (λ h. IsPlaced sources h.bytes) slices → known_slices (held_list sources slices) ≡ Some all

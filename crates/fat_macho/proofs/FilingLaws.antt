@@ -10,7 +10,7 @@ use Rattle.std.proofs.Math.Seq.{take-append_seam}
 use Rattle.std.proofs.lemmas.List.{length-map}
 use Rattle.fat_macho.specs.Filing.{ChangesSources}
 use Rattle.fat_macho.specs.Held.{Held, IsSameHeld, KeepsSlices, SomeRose}
-use Rattle.fat_macho.specs.HeldViews.{origin_of, size_of_slice, known_range, known_bytes, faults_in, faults_of, raw_shape, held_view, held_list, LiesInSource, IsPlaced, IsWriter}
+use Rattle.fat_macho.specs.HeldViews.{size_of_slice, known_range, known_bytes, faults_in, faults_of, held_view, held_list, LiesInSource, IsPlaced, IsWriter}
 use Rattle.fat_macho.specs.declared.held.HeldSlice.{HeldSlice}
 use Rattle.fat_macho.specs.declared.held.SliceBytes.{SliceBytes}
 use Rattle.fat_macho.specs.declared.held.SliceBytes.TheVariants as lies

@@ -1,5 +1,5 @@
 -- What a written file holds, by its places.
-use Rattle.std.proofs.Common.{◌≡◌, ◌≢◌, ℕ, zero, suc, ◌+◌, ◌-◌, ◌*◌, ◌^◌, ◌<◌, ◌≤◌, ◌==◌, ◌⊎◌, inl, inr, Bool, true, false, List, [], ◌∷◌, ◌++◌, length, map, zip, take, replicate, reverse, get_or, slice_get, Option, Some, None, refl, ap, sym, ◌∙◌, arith, subst, if◌then◌else◌, length-append, append_assoc}
+use Rattle.std.proofs.Common.{◌≡◌, ℕ, zero, suc, ◌+◌, ◌-◌, ◌^◌, ◌<◌, ◌≤◌, ◌==◌, ◌⊎◌, inl, inr, Bool, true, false, List, [], ◌∷◌, ◌++◌, length, map, zip, take, replicate, reverse, get_or, slice_get, Some, refl, ap, sym, ◌∙◌, arith, subst, if◌then◌else◌, length-append, append_assoc}
 use Rattle.std.specs.Int.{next_multiple_of}
 use Rattle.std.specs.List.{All, AllByRecursion, range_with_len}
 use Rattle.std.proofs.lemmas.List.{length-map, length-reverse, reverse-reverse, length-replicate}
@@ -10,16 +10,16 @@ use Rattle.byte_core.proofs.Bytes.{bytes-little_bytes}
 use Rattle.byte_core.specs.LaidOut.{laid_out}
 use Rattle.byte_core.specs.Number.{bytes_at, big_number_at, little_number, little_bytes}
 use Rattle.byte_core.proofs.Numbers.{length-little_bytes, little_number-little_bytes}
-use Rattle.byte_core.proofs.Standing.{StandsAt, stands_whole, stands_front, stands_behind, stands_left, stands_right, stands_as, stands_inside, bytes_stand}
+use Rattle.byte_core.proofs.Standing.{StandsAt, stands_whole, stands_left, stands_right, stands_as, stands_inside, bytes_stand}
 use Rattle.image_read.specs.FatFile.{FatEntry, fat_magic, fat_count, has_wide_entries, fat_entry_size, fat_table_end, narrow_entry_at, wide_entry_at, fat_entry}
-use Rattle.image_read.specs.FatImage.{FatSliceData, FatImageData, slice_data, fat_image_of, IsFat, FatReads}
-use Rattle.fat_macho.specs.FatBytes.{big_bytes, header_bytes, narrow_row, wide_row, row_bytes, rows_from, contents_from, fat_bytes, FitsShape}
-use Rattle.fat_macho.specs.FatHolds.{power_of, slice_at, image_with, free_from, IsZero, HoldsAt}
+use Rattle.image_read.specs.FatImage.{FatSliceData, FatImageData, slice_data, fat_image_of}
+use Rattle.fat_macho.specs.FatBytes.{big_bytes, header_bytes, narrow_row, wide_row, row_bytes, rows_from, contents_from, FitsShape}
+use Rattle.fat_macho.specs.FatHolds.{power_of, slice_at, free_from, IsZero, HoldsAt}
 use Rattle.fat_macho.specs.Held.{TableIsBytes}
-use Rattle.fat_macho.specs.Layout.{FatLayout, places_from, end_from, fat_layout, layout_of, greatest_align, sizes_of}
+use Rattle.fat_macho.specs.Layout.{FatLayout, places_from, end_from, sizes_of}
 use Rattle.fat_macho.specs.Slices.{Shape, Slice, shape_of}
 use Rattle.fat_macho.proofs.LayoutLaws.{next-over}
-use Rattle.fat_macho.proofs.StepLaws.{end_within, FitsTable, layout_fits}
+use Rattle.fat_macho.proofs.StepLaws.{end_within}
 
 -- -- numbers
 
@@ -66,19 +66,36 @@ six a b c d e f g h i j k l p q r s t u = rw (p, q, r, s, t, u) refl
 length-narrow : (align : ℕ) (a : Shape) (offset : ℕ) → length (narrow_row align a offset) ≡ 20
 unfolding narrow_row
 length-narrow align a offset =
-    omega (arith, length-append (big_bytes 4 a.cputype) (big_bytes 4 a.cpusubtype ++ (big_bytes 4 offset ++ (big_bytes 4 a.size ++ big_bytes 4 (power_of align)))),
-        length-append (big_bytes 4 a.cpusubtype) (big_bytes 4 offset ++ (big_bytes 4 a.size ++ big_bytes 4 (power_of align))),
-        length-append (big_bytes 4 offset) (big_bytes 4 a.size ++ big_bytes 4 (power_of align)), length-append (big_bytes 4 a.size) (big_bytes 4 (power_of align)),
-        length-big 4 a.cputype, length-big 4 a.cpusubtype, length-big 4 offset, length-big 4 a.size, length-big 4 (power_of align))
+    omega (
+      arith,
+      length-append (big_bytes 4 a.cputype) (big_bytes 4 a.cpusubtype ++ (big_bytes 4 offset ++ (big_bytes 4 a.size ++ big_bytes 4 (power_of align)))),
+      length-append (big_bytes 4 a.cpusubtype) (big_bytes 4 offset ++ (big_bytes 4 a.size ++ big_bytes 4 (power_of align))),
+      length-append (big_bytes 4 offset) (big_bytes 4 a.size ++ big_bytes 4 (power_of align)),
+      length-append (big_bytes 4 a.size) (big_bytes 4 (power_of align)),
+      length-big 4 a.cputype,
+      length-big 4 a.cpusubtype,
+      length-big 4 offset,
+      length-big 4 a.size,
+      length-big 4 (power_of align),
+    )
 
 length-wide : (align : ℕ) (a : Shape) (offset : ℕ) → length (wide_row align a offset) ≡ 32
 unfolding wide_row
 length-wide align a offset =
-    omega (arith, length-append (big_bytes 4 a.cputype) (big_bytes 4 a.cpusubtype ++ (big_bytes 8 offset ++ (big_bytes 8 a.size ++ (big_bytes 4 (power_of align) ++ big_bytes 4 0)))),
-        length-append (big_bytes 4 a.cpusubtype) (big_bytes 8 offset ++ (big_bytes 8 a.size ++ (big_bytes 4 (power_of align) ++ big_bytes 4 0))),
-        length-append (big_bytes 8 offset) (big_bytes 8 a.size ++ (big_bytes 4 (power_of align) ++ big_bytes 4 0)), length-append (big_bytes 8 a.size) (big_bytes 4 (power_of align) ++ big_bytes 4 0),
-        length-append (big_bytes 4 (power_of align)) (big_bytes 4 0),
-        length-big 4 a.cputype, length-big 4 a.cpusubtype, length-big 8 offset, length-big 8 a.size, length-big 4 (power_of align), length-big 4 0)
+    omega (
+      arith,
+      length-append (big_bytes 4 a.cputype) (big_bytes 4 a.cpusubtype ++ (big_bytes 8 offset ++ (big_bytes 8 a.size ++ (big_bytes 4 (power_of align) ++ big_bytes 4 0)))),
+      length-append (big_bytes 4 a.cpusubtype) (big_bytes 8 offset ++ (big_bytes 8 a.size ++ (big_bytes 4 (power_of align) ++ big_bytes 4 0))),
+      length-append (big_bytes 8 offset) (big_bytes 8 a.size ++ (big_bytes 4 (power_of align) ++ big_bytes 4 0)),
+      length-append (big_bytes 8 a.size) (big_bytes 4 (power_of align) ++ big_bytes 4 0),
+      length-append (big_bytes 4 (power_of align)) (big_bytes 4 0),
+      length-big 4 a.cputype,
+      length-big 4 a.cpusubtype,
+      length-big 8 offset,
+      length-big 8 a.size,
+      length-big 4 (power_of align),
+      length-big 4 0,
+    )
 
 length-row : (wide : Bool) (align : ℕ) (a : Shape) (offset : ℕ) → length (row_bytes wide align a offset) ≡ fat_entry_size wide
 length-row true align a offset = length-wide align a offset
@@ -157,14 +174,15 @@ all_stand b wide align total end k (s ∷ slices) rows contents fits short limit
     let gap_len = length-replicate {A = ℕ} (offset - end) 0 in
     let behind = stands_right b (replicate (offset - end) 0) (s.bytes ++ contents_from align next slices) end offset cut (omega (arith, gap_len, next-over end align)) in
     let here = stands_left b s.bytes (contents_from align next slices) offset behind in
-    let more = stands_right b s.bytes (contents_from align next slices) offset next behind refl in
-    (record {
-          entry = entry_stands b wide align k (shape_of s) offset this fits.0 (fits_less wide next total (omega (arith, below, short)) limit);
-          bytes = bytes_stand b s.bytes offset (length s.bytes) here refl;
-          inside = stands_inside b s.bytes offset here;
-          gap = bytes_stand b (replicate (offset - end) 0) end (offset - end) zeros gap_len;
-        },
-        all_stand b wide align total next (k + 1) slices rest more fits.1 short limit)
+    let more = stands_right b s.bytes (contents_from align next slices) offset next behind refl in (
+      record {
+        entry = entry_stands b wide align k (shape_of s) offset this fits.0 (fits_less wide next total (omega (arith, below, short)) limit);
+        bytes = bytes_stand b s.bytes offset (length s.bytes) here refl;
+        inside = stands_inside b s.bytes offset here;
+        gap = bytes_stand b (replicate (offset - end) 0) end (offset - end) zeros gap_len;
+      },
+      all_stand b wide align total next (k + 1) slices rest more fits.1 short limit,
+    )
 
 -- -- the image
 
@@ -376,7 +394,7 @@ bytes-wide : (align : ℕ) (a : Shape) (offset : ℕ) → AreBytes (wide_row ali
 unfolding wide_row
 bytes-wide align a offset =
     both (big_bytes 4 a.cputype) _ (bytes-big 4 a.cputype) (both (big_bytes 4 a.cpusubtype) _ (bytes-big 4 a.cpusubtype) (both (big_bytes 8 offset) _ (bytes-big 8 offset)
-            (both (big_bytes 8 a.size) _ (bytes-big 8 a.size) (both (big_bytes 4 (power_of align)) (big_bytes 4 0) (bytes-big 4 (power_of align)) (bytes-big 4 0)))))
+    (both (big_bytes 8 a.size) _ (bytes-big 8 a.size) (both (big_bytes 4 (power_of align)) (big_bytes 4 0) (bytes-big 4 (power_of align)) (bytes-big 4 0)))))
 
 bytes-row : (wide : Bool) (align : ℕ) (a : Shape) (offset : ℕ) → AreBytes (row_bytes wide align a offset)
 bytes-row true align a offset = bytes-wide align a offset

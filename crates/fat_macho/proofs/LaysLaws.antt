@@ -1,14 +1,14 @@
 -- Slices are written one behind the other.
-use Rattle.std.proofs.Common.{◌≡◌, ℕ, zero, suc, ◌+◌, ◌-◌, ◌<◌, ◌≤◌, Bool, List, [], ◌∷◌, ◌++◌, length, map, drop, replicate, get_or, slice_get, Option, Some, None, option_map, option_and_then, refl, ap, sym, ◌∙◌, arith, subst, append_assoc}
+use Rattle.std.proofs.Common.{◌≡◌, ℕ, ◌+◌, ◌-◌, ◌<◌, ◌≤◌, Bool, List, [], ◌∷◌, ◌++◌, length, map, drop, replicate, Option, Some, None, option_map, option_and_then, refl, ap, sym, ◌∙◌, arith, subst, append_assoc}
 use Rattle.std.specs.Int.{next_multiple_of}
 use Rattle.std.specs.List.{AllByRecursion}
 use Rattle.byte_core.specs.LaidOut.{laid_out}
 use Rattle.byte_core.specs.Outside.{AppendsFront}
 use Rattle.byte_core.specs.Streams.{SourceData, SinkData, HasLength}
-use Rattle.fat_macho.specs.FatBytes.{row_bytes, rows_from, aligned_slice, contents_from}
-use Rattle.fat_macho.specs.Filing.{ChangesSources, known_contents, LaysRest, Lays}
-use Rattle.fat_macho.specs.Held.{Held, known_slices}
-use Rattle.fat_macho.specs.HeldViews.{size_of_slice, known_bytes, raw_shape, held_view, held_list, IsPlaced}
+use Rattle.fat_macho.specs.FatBytes.{row_bytes, rows_from, contents_from}
+use Rattle.fat_macho.specs.Filing.{ChangesSources, known_contents, Lays}
+use Rattle.fat_macho.specs.Held.{known_slices}
+use Rattle.fat_macho.specs.HeldViews.{size_of_slice, known_bytes, raw_shape, held_list, IsPlaced}
 use Rattle.fat_macho.specs.Layout.{end_from, sizes_of}
 use Rattle.fat_macho.specs.Slices.{Slice, Shape}
 use Rattle.fat_macho.specs.Writing.{Puts, PutsKnown, FrontKnown, Part}
@@ -65,14 +65,14 @@ pub lays_on : (sources now : List SourceData) (align start end next : ℕ) (slic
 lays_on sources now align start end next slices rest more h x y z lays split changes lengths placed is puts =
     record {
       known = λ all e.
-      let l = lays.known all e in
-      let f = first_known sources h more l.left (ap (λ r. known_slices (held_list sources r)) (sym split) ∙ l.are_left) in
-      let len : length f.bytes ≡ size_of_slice h.bytes = known_length sources h.bytes f.bytes lengths placed f.are in
-      let place : next_multiple_of end align + length f.bytes ≡ next = ap (λ n. next_multiple_of end align + n) len ∙ sym is in
-      let cut : contents_from align end l.left ≡ gapped align end f.bytes ++ contents_from align next f.rest =
-      ap (contents_from align end) f.all_is ∙ contents_split align end (known_slice h f.bytes) f.rest ∙ ap (λ n. gapped align end f.bytes ++ contents_from align n f.rest) place in
-      let put : Puts y z (gapped align end f.bytes) = puts.known (gapped align end f.bytes) (ap (option_map (gapped align end)) (known_same sources now h.bytes changes ∙ f.are)) in
-      record { left = f.rest; are_left = f.rest_is; part = part_goes_on x y z (contents_from align start all) (contents_from align end l.left) (gapped align end f.bytes) (contents_from align next f.rest) l.part cut put }
+          let l = lays.known all e in
+          let f = first_known sources h more l.left (ap (λ r. known_slices (held_list sources r)) (sym split) ∙ l.are_left) in
+          let len : length f.bytes ≡ size_of_slice h.bytes = known_length sources h.bytes f.bytes lengths placed f.are in
+          let place : next_multiple_of end align + length f.bytes ≡ next = ap (λ n. next_multiple_of end align + n) len ∙ sym is in
+          let cut : contents_from align end l.left ≡ gapped align end f.bytes ++ contents_from align next f.rest =
+          ap (contents_from align end) f.all_is ∙ contents_split align end (known_slice h f.bytes) f.rest ∙ ap (λ n. gapped align end f.bytes ++ contents_from align n f.rest) place in
+          let put : Puts y z (gapped align end f.bytes) = puts.known (gapped align end f.bytes) (ap (option_map (gapped align end)) (known_same sources now h.bytes changes ∙ f.are)) in
+          record { left = f.rest; are_left = f.rest_is; part = part_goes_on x y z (contents_from align start all) (contents_from align end l.left) (gapped align end f.bytes) (contents_from align next f.rest) l.part cut put };
     }
 
 pub mapped_front : (f : List Slice → List ℕ) (o : Option (List Slice)) (x y : SinkData) → ((all : List Slice) → o ≡ Some all → AppendsFront x.written y.written (f all)) → FrontKnown (option_map f o) x y

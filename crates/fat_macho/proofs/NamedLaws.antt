@@ -1,5 +1,5 @@
 -- The slice of a name.
-use Rattle.std.proofs.Common.{◌≡◌, ℕ, ◌+◌, Bool, true, false, List, [], ◌∷◌, map, find, Option, Some, None, option_and_then, is_some, refl, ap, sym, ◌∙◌, if◌then◌else◌}
+use Rattle.std.proofs.Common.{◌≡◌, ℕ, ◌+◌, Bool, true, false, List, [], ◌∷◌, map, find, Option, Some, None, option_and_then, is_some, refl, if◌then◌else◌}
 use Rattle.std.specs.List.{position_from}
 use Rattle.byte_core.specs.Streams.{SourceData}
 use Rattle.goblin_mach.specs.Architectures.{pair_named}

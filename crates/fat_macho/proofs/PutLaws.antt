@@ -1,16 +1,11 @@
 -- What a sink took over several calls.
-use Rattle.std.proofs.Common.{◌≡◌, ℕ, zero, suc, ◌+◌, ◌-◌, ◌<◌, ◌≤◌, min, List, [], ◌∷◌, ◌++◌, length, take, drop, replicate, Option, Some, None, option_map, Result, Ok, Err, OnErr, refl, ap, sym, ◌∙◌, arith, subst, append-nil, append_assoc}
-use Rattle.std.specs.List.{All}
-use Rattle.std.proofs.Math.Seq.{take-add, take-append-add}
+use Rattle.std.proofs.Common.{◌≡◌, ℕ, zero, suc, ◌+◌, ◌-◌, ◌<◌, ◌≤◌, min, List, [], ◌∷◌, ◌++◌, length, take, drop, replicate, Option, Some, None, Result, Ok, Err, OnErr, refl, ap, sym, ◌∙◌, arith, subst, append-nil, append_assoc}
+use Rattle.std.proofs.Math.Seq.{take-append-add}
 use Rattle.std.proofs.lemmas.List.{take_rest, take-append-drop, drop-drop, take_all, take-replicate, replicate-append-replicate}
 use Rattle.std.proofs.lemmas.List.Elements.{All-nil, All-append}
-use Rattle.byte_core.specs.Count.{Rose}
 use Rattle.byte_core.specs.Outside.{Appends, AppendsFront}
 use Rattle.byte_core.specs.Streams.{SinkData}
-use Rattle.fat_macho.specs.Writing.{Puts, PutsKnown, FrontKnown, Part, FailsBy}
-use Rattle.fat_macho.specs.declared.error.Error.{Error}
-use Rattle.fat_macho.specs.declared.error.Error.TheVariants.{Io, Goblin, NotFatBinary, InvalidMachO, DuplicatedArch, TooMany, TooLarge, OutOfMemory}
-use Rattle.fat_macho.specs.declared.error.IoCause.TheVariants.{Source, Sink, Open}
+use Rattle.fat_macho.specs.Writing.{Puts, Part}
 
 appends_nothing : (x : Option (List ℕ)) → Appends x x []
 appends_nothing None = refl

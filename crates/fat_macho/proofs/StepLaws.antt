@@ -3,10 +3,9 @@ use Rattle.std.proofs.Common.{◌≡◌, ℕ, ◌+◌, ◌^◌, ◌<◌, ◌≤�
 use Rattle.std.specs.Prelude.{nat_lt}
 use Rattle.std.specs.Int.{next_multiple_of}
 use Rattle.image_read.specs.FatFile.{fat_table_end}
-use Rattle.fat_macho.specs.Layout.{FatLayout, places_from, end_from, layout_of, fitting_layout, fat_layout, greatest_align, sizes_of, total_of}
+use Rattle.fat_macho.specs.Layout.{FatLayout, places_from, end_from, layout_of, fat_layout, greatest_align, sizes_of, total_of}
 use Rattle.fat_macho.specs.LayoutSteps.{step_at, steps_from, layout_steps}
 use Rattle.fat_macho.specs.Slices.{Shape}
-use Rattle.fat_macho.specs.declared.steps.LayoutStep.{LayoutStep}
 use Rattle.fat_macho.proofs.LayoutLaws.{next-over}
 use Rattle.std.proofs.lemmas.List.{length-map}
 

@@ -1,12 +1,9 @@
 -- The numbers of a table.
-use Rattle.std.proofs.Common.{◌≡◌, ℕ, ◌+◌, ◌-◌, ◌<◌, ◌≤◌, List, [], ◌∷◌, ◌++◌, length, take, drop, reverse, refl, ap, sym, ◌∙◌, arith}
+use Rattle.std.proofs.Common.{◌≡◌, ℕ, ◌+◌, ◌-◌, ◌≤◌, List, ◌++◌, length, take, drop, reverse, ap, sym, ◌∙◌, arith}
 use borrow.Rule.Slice.PartMut.{put_mid}
 use Rattle.std.proofs.Math.Seq.{take-append_seam, drop-append_seam}
-use Rattle.std.proofs.lemmas.List.{length-take, length-reverse, length-drop, take-take, drop-take}
+use Rattle.std.proofs.lemmas.List.{length-reverse, take-take, drop-take}
 use Rattle.std.proofs.lemmas.Slice.{take-put_mid}
-use Rattle.byte_core.specs.Number.{little_bytes}
-use Rattle.byte_core.proofs.Numbers.{length-little_bytes}
-use Rattle.fat_macho.specs.FatBytes.{big_bytes}
 
 -- what stands behind a place is turned
 pub reversed : (old mid new front back : List ℕ) (at w e k : ℕ) → e ≡ at + w → k ≡ e - at → length front ≡ at → length back ≡ w → e ≤ length mid → take e mid ≡ front ++ back → new ≡ reverse (take k (drop at mid))

@@ -1,22 +1,20 @@
 -- What a sink has taken of a writer's file.
-use Rattle.std.proofs.Common.{◌≡◌, ℕ, ◌+◌, ◌^◌, ◌<◌, ◌≤◌, Bool, true, false, List, [], ◌∷◌, ◌++◌, length, map, Option, Some, None, option_map, IfSome, refl, ap, sym, ◌∙◌, arith, subst, if◌then◌else◌}
+use Rattle.std.proofs.Common.{◌≡◌, ℕ, ◌^◌, ◌<◌, Bool, true, false, List, [], ◌∷◌, length, map, Option, Some, None, option_map, IfSome, refl, ap, sym, ◌∙◌, arith, subst, if◌then◌else◌}
 use Rattle.std.specs.Prelude.{nat_lt}
-use Rattle.std.specs.List.{All, AllByRecursion}
+use Rattle.std.specs.List.{AllByRecursion}
 use Rattle.std.proofs.lemmas.List.{length-map}
 use Rattle.std.proofs.lemmas.List.Elements.{All-nil}
 use Rattle.std.proofs.lemmas.Bool.{ltb-false}
-use Rattle.byte_core.specs.Outside.{Appends, AppendsFront}
-use Rattle.byte_core.specs.Streams.{SourceData, SinkData, HasLength}
+use Rattle.byte_core.specs.Streams.{SourceData, SinkData}
 use Rattle.image_read.specs.FatFile.{fat_table_end}
 use Rattle.fat_macho.specs.FatBytes.{fat_bytes, FitsShape}
 use Rattle.fat_macho.specs.FatHolds.{HoldsAt, HoldsOrdered, FatHolds}
 use Rattle.fat_macho.specs.Filing.{known_file}
-use Rattle.fat_macho.specs.Held.{Held, known_slices, TakesFile, TakesFront, TableIsBytes}
-use Rattle.fat_macho.specs.HeldViews.{raw_shape, held_list, AreOthers, IsWriter}
-use Rattle.fat_macho.specs.Layout.{FatLayout, places_from, end_from, layout_of, fitting_layout, fat_layout, greatest_align, sizes_of, total_of}
-use Rattle.fat_macho.specs.Parts.{Pairwise}
-use Rattle.fat_macho.specs.Slices.{Shape, Slice, shape_of, slice_before, by_shape, in_order_by, in_order}
-use Rattle.fat_macho.specs.Writing.{Puts, PutsKnown, FrontKnown, FailsBy}
+use Rattle.fat_macho.specs.Held.{known_slices, TakesFile, TakesFront, TableIsBytes}
+use Rattle.fat_macho.specs.HeldViews.{raw_shape, held_list, IsWriter}
+use Rattle.fat_macho.specs.Layout.{FatLayout, places_from, end_from, layout_of, fat_layout, greatest_align, sizes_of, total_of}
+use Rattle.fat_macho.specs.Slices.{Shape, Slice, shape_of, in_order}
+use Rattle.fat_macho.specs.Writing.{PutsKnown, FrontKnown, FailsBy}
 use Rattle.fat_macho.specs.declared.error.Error.{Error}
 use Rattle.fat_macho.specs.declared.error.Error.TheVariants.{Io}
 use Rattle.fat_macho.specs.declared.error.IoCause.TheVariants.{Source}
@@ -26,7 +24,7 @@ use Rattle.fat_macho.proofs.HoldsLaws.{FitsWide, FileStands, file_stands, holds_
 use Rattle.fat_macho.proofs.OrderLaws.{Before}
 use Rattle.fat_macho.proofs.PutLaws.{puts_nothing}
 use Rattle.fat_macho.proofs.RankLaws.{Ranked, rank_in_order, ranked_stays}
-use Rattle.fat_macho.proofs.StepLaws.{FitsTable, layout_fits, layout_short}
+use Rattle.fat_macho.proofs.StepLaws.{layout_fits, layout_short}
 
 -- -- the order of known slices
 
@@ -128,20 +126,20 @@ pub takes_file : (sources : List SourceData) (slices : List HeldSlice) (x y : Si
 takes_file sources slices x y w fits more puts =
     record {
       file = each_some (known_slices (held_list sources slices)) _
-      (λ all e.
-      let b : List ℕ = fat_bytes all (fat_layout (map shape_of all)) in
-      let p = puts.known b (ap (option_map (λ all. fat_bytes all (fat_layout (map shape_of all)))) e) in
-      (b, p.are_bytes, file_holds all (known_some sources slices all w more e) (known_make sources slices all w fits e), p.put))
+          (λ all e.
+          let b : List ℕ = fat_bytes all (fat_layout (map shape_of all)) in
+          let p = puts.known b (ap (option_map (λ all. fat_bytes all (fat_layout (map shape_of all)))) e) in
+          (b, p.are_bytes, file_holds all (known_some sources slices all w more e) (known_make sources slices all w fits e), p.put));
     }
 
 pub takes_front : (sources : List SourceData) (slices : List HeldSlice) (x y : SinkData) → IsWriter sources slices → AllByRecursion FitsShape (map raw_shape slices) → 0 < length slices → FrontKnown (known_file sources slices) x y → TakesFront (held_list sources slices) x.written y.written
 takes_front sources slices x y w fits more front =
     record {
       file = each_some (known_slices (held_list sources slices)) _
-      (λ all e.
-      let b : List ℕ = fat_bytes all (fat_layout (map shape_of all)) in
-      let m = known_make sources slices all w fits e in
-      (b, file_table all m, file_holds all (known_some sources slices all w more e) m, front.known b (ap (option_map (λ all. fat_bytes all (fat_layout (map shape_of all)))) e)))
+          (λ all e.
+          let b : List ℕ = fat_bytes all (fat_layout (map shape_of all)) in
+          let m = known_make sources slices all w fits e in
+          (b, file_table all m, file_holds all (known_some sources slices all w more e) m, front.known b (ap (option_map (λ all. fat_bytes all (fat_layout (map shape_of all)))) e)));
     }
 
 -- no slices have no bytes

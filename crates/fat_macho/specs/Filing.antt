@@ -1,5 +1,5 @@
 -- What is written of a writer's slices.
-use Rattle.std.specs.Prelude.{◌≡◌, ℕ, List, map, drop, Option, Some, option_map}
+use Rattle.std.specs.Prelude.{◌≡◌, ℕ, List, map, Option, Some, option_map}
 use Rattle.std.specs.List.{AllZip}
 use Rattle.byte_core.specs.Streams.{SourceData, SinkData, ChangesFaults}
 use Rattle.fat_macho.specs.FatBytes.{contents_from, fat_bytes}

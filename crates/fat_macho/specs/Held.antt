@@ -1,5 +1,5 @@
 -- What a contract sees of a writer of fat files.
-use Rattle.std.specs.Prelude.{◌≡◌, ℕ, ◌≤◌, ◌<◌, ◌⊎◌, nat_lt, Bool, not, true, List, [], ◌∷◌, ◌++◌, length, take, map, filter, find, slice_get, Option, Some, None, option_map, option_and_then, IfSome, IsSome, IsSomeAnd, Result, IfOk, IfErr, OnOk, OnErr}
+use Rattle.std.specs.Prelude.{◌≡◌, ℕ, ◌≤◌, ◌<◌, ◌⊎◌, Bool, not, List, [], ◌∷◌, ◌++◌, length, take, map, filter, find, slice_get, Option, Some, None, option_map, option_and_then, IfSome, IsSome, IsSomeAnd, Result, IfErr, OnOk, OnErr}
 use Rattle.std.specs.List.{All}
 use Rattle.byte_core.specs.Count.{Rose}
 use Rattle.byte_core.specs.Outside.{Appends, AppendsFront}

@@ -43,8 +43,8 @@ loop-slice-preserved g c =
     let placed = all_at (λ h. IsPlaced first h.bytes) c.args.slices.now c.loop-slice.slice-index c.slice-item.result c.requires.placed here in
     record {
       written =
-      lays_on first now c.args.align c.args.start c.loop-slice.end c.in_ok-end.end c.args.slices.now _ _ c.slice-item.result (g.W.Sink.sink c.args.sink.now) (g.W.Sink.sink c.loop-slice.sink) (g.W.Sink.sink c.write_next.new.sink)
-      c.loop-slice.invariant.written split c.loop-slice.invariant.others c.requires.lengths placed c.in_ok-end.ensures.end c.in_ok-end.ensures.ok;
+          lays_on first now c.args.align c.args.start c.loop-slice.end c.in_ok-end.end c.args.slices.now _ _ c.slice-item.result (g.W.Sink.sink c.args.sink.now) (g.W.Sink.sink c.loop-slice.sink) (g.W.Sink.sink c.write_next.new.sink)
+          c.loop-slice.invariant.written split c.loop-slice.invariant.others c.requires.lengths placed c.in_ok-end.ensures.end c.in_ok-end.ensures.ok;
       ends = end_on c.args.align c.loop-slice.end c.in_ok-end.end _ c.slice-item.result _ _ c.loop-slice.invariant.ends split c.in_ok-end.ensures.end;
       others = sources_again _ _ _ c.loop-slice.invariant.others c.write_next.ensures.others;
       rises = omega (arith, c.loop-slice.invariant.rises, c.write_next.ensures.rises);

@@ -1,7 +1,7 @@
-use Rattle.std.proofs.Common.{◌≡◌, ℕ, length, map, sym, arith}
+use Rattle.std.proofs.Common.{length, map, sym, arith}
 use Rattle.std.proofs.lemmas.List.{length-map}
 use Rattle.fat_macho.specs.HeldViews.{raw_shape}
-use Rattle.fat_macho.proofs.StepLaws.{StartsAt, starts_at, steps_are, layout_short}
+use Rattle.fat_macho.proofs.StepLaws.{starts_at, steps_are, layout_short}
 use Rattle.fat_macho.proofs.steps.steps_of.Goals as goal
 
 pub invariant_of-result : goal.invariant_of-result

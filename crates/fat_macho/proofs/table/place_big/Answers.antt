@@ -1,4 +1,4 @@
-use Rattle.std.proofs.Common.{arith, refl, take, length}
+use Rattle.std.proofs.Common.{arith, refl, take}
 use Rattle.std.proofs.lemmas.List.{length-take}
 use Rattle.byte_core.specs.Number.{little_bytes}
 use Rattle.byte_core.proofs.Numbers.{length-little_bytes}

@@ -1,4 +1,4 @@
-use Rattle.std.proofs.Common.{◌≡◌, ◌+◌, ◌≤◌, arith, length, drop, refl, length-append, length-drop}
+use Rattle.std.proofs.Common.{◌+◌, ◌≤◌, arith, drop, refl, length-append, length-drop}
 use Rattle.fat_macho.proofs.CopyLaws.{copies_on, copies_fail, copies_end, block_len}
 use Rattle.fat_macho.proofs.Fronts.{faults_again}
 use Rattle.fat_macho.proofs.PutLaws.{on_err}

@@ -1,4 +1,4 @@
-use Rattle.std.proofs.Common.{◌≡◌, ◌∙◌, ap, sym, map, is_some, List}
+use Rattle.std.proofs.Common.{◌≡◌, ◌∙◌, ap, map, is_some, List}
 use Rattle.byte_core.specs.Streams.{SourceData}
 use Rattle.fat_macho.specs.Held.{slice_named}
 use Rattle.fat_macho.specs.HeldViews.{raw_shape}

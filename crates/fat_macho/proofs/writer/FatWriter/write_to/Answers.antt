@@ -1,4 +1,4 @@
-use Rattle.std.proofs.Common.{◌≡◌, ◌<◌, ℕ, List, length, map, take, drop, ◌++◌, ap, sym, subst, arith, rules, OnOk, OnErr, IfErr}
+use Rattle.std.proofs.Common.{◌≡◌, ◌<◌, List, length, map, sym, subst, arith, rules, OnOk, OnErr, IfErr}
 use Rattle.std.specs.List.{AllByRecursion}
 use Rattle.byte_core.specs.Count.{Rose}
 use Rattle.byte_core.specs.Streams.{SourceData}
