@@ -1,26 +1,26 @@
 -- An input is added.
-use Rattle.std.proofs.Common.{◌≡◌, ℕ, ◌+◌, ◌<◌, ◌≤◌, Bool, true, false, List, [], ◌∷◌, ◌++◌, length, map, Option, Some, None, option_map, IsSomeAnd, refl, ap, sym, ◌∙◌, arith, subst, ◌⊎◌, inl, inr, Result, Ok, Err, OnOk, OnErr, IfErr, Bor, Global}
+use Rattle.std.proofs.Common.{◌≡◌, ℕ, ◌+◌, ◌≤◌, true, false, List, [], ◌∷◌, ◌++◌, length, map, Option, Some, None, refl, ap, sym, ◌∙◌, subst, ◌⊎◌, inl, inr, Result, Ok, Err, OnOk, OnErr, IfErr, Bor, Global}
 use Rattle.std.specs.List.{AllByRecursion, AllZip}
 use Rattle.std.specs.Option.{option_or}
 use Rattle.std.specs.Rc.{rc_slice_items}
 use Rattle.std.specs.declared.rc.RcSlice.{RcSlice}
 use Rattle.byte_core.specs.Number.{bytes_at}
-use Rattle.byte_core.specs.Streams.{SourceData, HasLength, ChangesFaults}
+use Rattle.byte_core.specs.Streams.{SourceData}
 use Rattle.fat_macho.specs.AddedViews.{HoldsPart, IsSliceOf, part_view, IsSeenPart}
 use Rattle.fat_macho.specs.Adding.{TellsAdd}
-use Rattle.fat_macho.specs.Held.{Held, Origin, borrowed, owned, source, shape_held, held_before, shapes_held, held_slice, with_input, IsAdded}
-use Rattle.fat_macho.specs.HeldViews.{raw_shape, held_view, held_list, IsPlaced, AreOthers, IsWriter}
-use Rattle.fat_macho.specs.Input.{FatRefusal, refusal_told, joining_cause, input_cause, input_slices, add_cause}
-use Rattle.fat_macho.specs.Parts.{Pairwise, IsInside, AreApart, part_slice, AreParts, ReadFails, HasCause, Fails}
+use Rattle.fat_macho.specs.Held.{Held, Origin, borrowed, owned, held_before, shapes_held, held_slice, with_input, IsAdded}
+use Rattle.fat_macho.specs.HeldViews.{raw_shape, held_list, IsPlaced, AreOthers, IsWriter}
+use Rattle.fat_macho.specs.Input.{FatRefusal, joining_cause, input_cause, input_slices, add_cause}
+use Rattle.fat_macho.specs.Parts.{Pairwise, IsInside, AreApart, part_slice, AreParts, ReadFails, Fails}
 use Rattle.fat_macho.specs.ShapeView.{shape_view}
-use Rattle.fat_macho.specs.Slices.{Shape, Slice, shape_of, share_arch, by_shape, all_inserted, in_order_by}
+use Rattle.fat_macho.specs.Slices.{Shape, shape_of, share_arch, by_shape, all_inserted, in_order_by}
 use Rattle.fat_macho.specs.declared.error.Error.{Error}
 use Rattle.fat_macho.specs.declared.error.Error.TheVariants.{Io, Goblin, NotFatBinary, InvalidMachO, DuplicatedArch, TooMany, TooLarge, OutOfMemory}
 use Rattle.fat_macho.specs.declared.error.IoCause.TheVariants.{Source, Sink, Open}
 use Rattle.fat_macho.specs.declared.added.InputBytes.TheVariants as from
 use Rattle.fat_macho.specs.declared.held.HeldSlice.{HeldSlice}
 use Rattle.fat_macho.specs.declared.input.Part.{Part}
-use Rattle.fat_macho.proofs.AddedLaws.{seen_borrowed, seen_shared, seen_source, seen_part}
+use Rattle.fat_macho.proofs.AddedLaws.{seen_borrowed, seen_shared, seen_part}
 use Rattle.fat_macho.proofs.InputLaws.{shapes_of_parts, part_shape, parts_shapes}
 use Rattle.fat_macho.proofs.Pairs.{all_map}
 use Rattle.fat_macho.proofs.WriterLaws.{joined_writer, joined_view, shapes_of_view}

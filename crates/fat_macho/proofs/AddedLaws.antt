@@ -1,6 +1,6 @@
 -- The slices of an input, one after the other.
-use Rattle.std.proofs.Common.{◌≡◌, ℕ, ◌+◌, ◌<◌, ◌≤◌, List, [], ◌∷◌, ◌++◌, length, take, get_or, map, slice_get, Option, Some, None, option_map, IsSomeAnd, refl, ap, sym, ◌∙◌, subst, arith, Bor, Global}
-use Rattle.std.specs.List.{AllByRecursion, AllZip}
+use Rattle.std.proofs.Common.{◌≡◌, ℕ, ◌+◌, ◌<◌, ◌≤◌, List, [], ◌∷◌, ◌++◌, length, take, get_or, slice_get, Option, Some, None, option_map, IsSomeAnd, refl, ap, sym, ◌∙◌, subst, arith, Bor, Global}
+use Rattle.std.specs.List.{AllZip}
 use Rattle.std.specs.Rc.{rc_slice_items}
 use Rattle.std.specs.declared.rc.RcSlice.{RcSlice}
 use Rattle.std.proofs.lemmas.List.{take_more}
@@ -8,8 +8,7 @@ use Rattle.byte_core.specs.Number.{bytes_at}
 use Rattle.byte_core.specs.Streams.{SourceData}
 use Rattle.fat_macho.specs.AddedViews.{IsRangeOf, IsSliceOf, IsSeenPart}
 use Rattle.fat_macho.specs.Held.{Held, Origin, borrowed, owned, source}
-use Rattle.fat_macho.specs.HeldViews.{origin_of, size_of_slice, known_range, known_bytes, faults_in, faults_of, raw_shape, held_view, held_list, LiesInSource, IsPlaced}
-use Rattle.fat_macho.specs.ShapeView.{shape_view}
+use Rattle.fat_macho.specs.HeldViews.{origin_of, size_of_slice, known_range, known_bytes, faults_in, faults_of, LiesInSource, IsPlaced}
 use Rattle.fat_macho.specs.Slices.{Shape}
 use Rattle.fat_macho.specs.declared.added.InputBytes.{InputBytes}
 use Rattle.fat_macho.specs.declared.added.InputBytes.TheVariants as from

@@ -1,12 +1,12 @@
 -- A class shows in the first 32 bytes.
-use Rattle.std.proofs.Common.{◌≡◌, ◌≢◌, ℕ, zero, suc, ◌+◌, ◌-◌, ◌<◌, ◌≤◌, ◌==◌, min, nat_lt, Bool, true, false, cond, List, [], ◌∷◌, ◌++◌, length, take, drop, reverse, bytes_eq, Option, Some, None, Result, Ok, Err, IsOk, refl, ap, sym, ◌∙◌, arith, lit<, if◌then◌else◌, ◌⊎◌, inl, inr}
+use Rattle.std.proofs.Common.{◌≡◌, ℕ, ◌+◌, ◌≤◌, ◌==◌, min, nat_lt, Bool, true, false, List, [], ◌∷◌, length, take, drop, reverse, bytes_eq, Option, Some, None, Result, Err, IsOk, refl, ap, sym, ◌∙◌, arith, lit<, if◌then◌else◌, ◌⊎◌, inl, inr}
 use Rattle.std.proofs.lemmas.List.{take-take, drop-take, length-take, take_all}
 use Rattle.std.proofs.lemmas.Bool.{lt-ltb, ltb-true, ltb-false, le-ltb}
 use Rattle.byte_core.specs.Number.{bytes_at, number_at, big_number_at, little_number}
 use Rattle.byte_core.specs.Streams.{SourceData}
 use Rattle.byte_core.specs.Count.{Rose}
 use Rattle.fat_macho.specs.ClassView.{class_view}
-use Rattle.fat_macho.specs.Parse.{Class, thin, cut, fat, bitcode, archive, unknown, ThinHeader, thin_header, header_number, other_class, thin_class, class_of}
+use Rattle.fat_macho.specs.Parse.{thin, cut, fat, bitcode, archive, unknown, ThinHeader, thin_header, header_number, other_class, thin_class, class_of}
 use Rattle.fat_macho.specs.Parts.{IsClassAt, ReadFails}
 use Rattle.fat_macho.specs.Reading.{HoldsRange}
 use Rattle.fat_macho.specs.declared.parse.InputClass.{InputClass}

@@ -1,5 +1,5 @@
 -- The first entry of an architecture, among the items of a table.
-use Rattle.std.proofs.Common.{◌≡◌, ℕ, Bool, true, false, cond, List, [], ◌∷◌, ◌++◌, map, find, Option, Some, None, Result, Ok, Err, refl, ap, sym, ◌∙◌, if◌then◌else◌, nat_lt}
+use Rattle.std.proofs.Common.{◌≡◌, Bool, true, false, cond, List, [], ◌∷◌, ◌++◌, map, find, Option, Some, None, Result, Ok, Err, refl, ap, if◌then◌else◌, nat_lt}
 use Rattle.goblin_mach.specs.declared.fat.FatArch.{FatArch}
 use Rattle.goblin_mach.specs.declared.mach_error.Error.{Error}
 use Rattle.goblin_mach.specs.declared.mach_error.Error.TheVariants.{BufferTooShort}

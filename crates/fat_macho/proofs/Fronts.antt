@@ -1,5 +1,5 @@
 -- What a buffer holds after one more read.
-use Rattle.std.proofs.Common.{◌≡◌, ℕ, zero, suc, ◌+◌, ◌-◌, ◌<◌, ◌≤◌, List, [], ◌∷◌, ◌++◌, length, take, drop, Option, Some, None, refl, ap, sym, ◌∙◌, arith, IfSome, length-append}
+use Rattle.std.proofs.Common.{◌≡◌, ℕ, ◌+◌, ◌-◌, ◌<◌, ◌≤◌, List, ◌++◌, length, take, drop, Option, Some, None, refl, ap, sym, ◌∙◌, arith, IfSome}
 use borrow.Rule.Slice.PartMut.{put_mid}
 use Rattle.std.proofs.Math.Seq.{take-add, take-append-add}
 use Rattle.std.proofs.lemmas.List.{drop-drop, take_all, length-take}
@@ -29,7 +29,7 @@ put_whole a k xs ys inside rest same len =
     let all : length xs ≡ a + length ys = omega (arith, rest, same, inside) in
     sym (take_all (length xs) (put_mid a k xs ys) (omega (arith, len))) ∙ take-put_mid a k xs ys (length xs) all inside
 
-bytes_more : (b : List ℕ) (p n m : ℕ) → bytes_at b p (n + m) ≡ bytes_at b p n ++ bytes_at b (p + n) m
+pub bytes_more : (b : List ℕ) (p n m : ℕ) → bytes_at b p (n + m) ≡ bytes_at b p n ++ bytes_at b (p + n) m
 unfolding bytes_at
 bytes_more b p n m = take-add n m (drop p b) ∙ ap (λ xs. take n (drop p b) ++ take m xs) (drop-drop n p b)
 

@@ -1,9 +1,9 @@
 -- The images of an input, one entry after the other.
-use Rattle.std.proofs.Common.{◌≡◌, ◌≢◌, ℕ, zero, suc, ◌+◌, ◌-◌, ◌*◌, ◌<◌, ◌≤◌, ◌==◌, ◌&&◌, min, nat_lt, Bool, true, false, List, [], ◌∷◌, ◌++◌, length, take, drop, map, Option, Some, None, Result, Ok, Err, IsSomeAnd, IfSome, refl, ap, sym, ◌∙◌, arith, lit<, if◌then◌else◌, slice_get, ◌⊎◌, inl, inr, subst, append-nil}
-use Rattle.std.specs.List.{AllByRecursion, range_with_len, list_any, filter_map}
+use Rattle.std.proofs.Common.{◌≡◌, ℕ, zero, suc, ◌+◌, ◌<◌, ◌≤◌, ◌==◌, ◌&&◌, nat_lt, Bool, true, false, List, [], ◌∷◌, ◌++◌, length, take, drop, map, Option, Some, None, IsSomeAnd, IfSome, refl, ap, sym, ◌∙◌, arith, if◌then◌else◌, ◌⊎◌, inl, inr, subst}
+use Rattle.std.specs.List.{AllByRecursion, range_with_len, filter_map}
 use Rattle.std.proofs.lemmas.List.{length-take, length-drop, map-append, take_all}
 use Rattle.std.proofs.lemmas.List.Elements.{filter_map-append}
-use Rattle.std.proofs.lemmas.Bool.{lt-ltb, le-ltb, ltb-false}
+use Rattle.std.proofs.lemmas.Bool.{lt-ltb, le-ltb}
 use Rattle.byte_core.specs.Count.{Rose}
 use Rattle.byte_core.specs.Number.{bytes_at}
 use Rattle.byte_core.specs.Streams.{SourceData, HasLength, ChangesFaults}
@@ -12,8 +12,8 @@ use Rattle.fat_macho.specs.ClassView.{class_view}
 use Rattle.fat_macho.specs.Parse.{Class, thin, cut, fat, bitcode, archive, unknown, class_of}
 use Rattle.fat_macho.specs.ShapeView.{shape_view}
 use Rattle.fat_macho.specs.Slices.{Shape, Slice, shape_of, share_arch, plain_subtype}
-use Rattle.fat_macho.specs.Input.{FatRefusal, invalid, duplicated, refusal_told, refuse_if, first_cause, class_cause, slice_of, entry_bytes, entry_slices, entry_cause, duplicate_cause, duplicate_of, is_among, fat_cause, cause_by, slices_by, input_cause, input_slices}
-use Rattle.fat_macho.specs.Parts.{IsClassAt, ReadFails, HasCause, TellsCause, Fails, IsThin, IsPartAt, IsCount, IsEntryAt, part_slice, Pairwise, IsInside, AreApart, IsEntryPart, AreEntryParts, AreFatParts, AreParts}
+use Rattle.fat_macho.specs.Input.{FatRefusal, invalid, refusal_told, refuse_if, first_cause, class_cause, slice_of, entry_bytes, entry_slices, entry_cause, duplicate_cause, duplicate_of, is_among, fat_cause, cause_by, slices_by, input_cause, input_slices}
+use Rattle.fat_macho.specs.Parts.{IsClassAt, ReadFails, TellsCause, Fails, IsThin, IsPartAt, IsCount, IsEntryAt, part_slice, IsInside, AreApart, IsEntryPart, AreEntryParts, AreFatParts, AreParts}
 use Rattle.fat_macho.specs.declared.error.Error.{Error}
 use Rattle.fat_macho.specs.declared.error.Error.TheVariants.{Io, Goblin, NotFatBinary, InvalidMachO, DuplicatedArch, TooMany, TooLarge, OutOfMemory}
 use Rattle.fat_macho.specs.declared.error.IoCause.TheVariants.{Source, Sink, Open}

@@ -1,10 +1,10 @@
 -- Whether slices can be put to others.
-use Rattle.std.proofs.Common.{◌≡◌, ℕ, ◌+◌, ◌^◌, ◌<◌, ◌≤◌, nat_le, Bool, true, false, List, [], ◌∷◌, ◌++◌, length, map, find, Option, Some, None, option_map, IsSomeAnd, refl, ap, sym, ◌∙◌, arith, if◌then◌else◌}
+use Rattle.std.proofs.Common.{◌≡◌, ℕ, ◌+◌, ◌^◌, ◌<◌, ◌≤◌, nat_le, Bool, true, false, List, [], ◌∷◌, ◌++◌, length, map, find, Option, Some, None, option_map, refl, ap, sym, ◌∙◌, arith, if◌then◌else◌}
 use Rattle.std.specs.List.{AllByRecursion, list_any}
-use Rattle.std.proofs.lemmas.List.{length-map, map-append}
+use Rattle.std.proofs.lemmas.List.{length-map}
 use Rattle.std.proofs.lemmas.Bool.{le-leb, lt-leb, leb-false}
 use Rattle.fat_macho.specs.Adding.{TellsAdd}
-use Rattle.fat_macho.specs.Input.{FatRefusal, duplicated, too_many, too_large, refusal_told, refuse_if, first_cause, duplicate_of, is_among, joining_cause}
+use Rattle.fat_macho.specs.Input.{FatRefusal, too_many, too_large, refusal_told, refuse_if, first_cause, duplicate_of, is_among, joining_cause}
 use Rattle.fat_macho.specs.Layout.{total_of}
 use Rattle.fat_macho.specs.ShapeView.{shape_view}
 use Rattle.fat_macho.specs.Slices.{Shape, share_arch, stands_before, by_shape, all_inserted, in_order_by, shapes_in_order}

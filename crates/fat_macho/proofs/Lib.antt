@@ -18,3 +18,13 @@ mod Results
 mod Pairs
 mod InputLaws
 mod JoiningLaws
+mod StepLaws
+mod NamedLaws
+mod PutLaws
+mod CopyLaws
+mod TableLaws
+mod FilingLaws
+mod LaysLaws
+mod FileLaws
+mod HoldsLaws
+mod TakenLaws

@@ -1,5 +1,5 @@
 -- Facts of each of a list, and of each two of it.
-use Rattle.std.proofs.Common.{◌≡◌, ℕ, zero, suc, ◌+◌, ◌<◌, Bool, true, false, List, [], ◌∷◌, ◌++◌, ◌||◌, map, Option, Some, None, refl, ap, sym, ◌∙◌, arith, slice_get, subst}
+use Rattle.std.proofs.Common.{◌≡◌, ℕ, zero, suc, ◌+◌, Bool, true, false, List, [], ◌∷◌, ◌++◌, ◌||◌, map, Some, refl, ap, ◌∙◌, arith, slice_get, subst}
 use Rattle.std.specs.List.{AllByRecursion, range_with_len, list_any}
 use Rattle.fat_macho.specs.Parts.{Pairwise}
 

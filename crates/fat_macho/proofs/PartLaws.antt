@@ -1,18 +1,17 @@
 -- What is found of parts of an input.
-use Rattle.std.proofs.Common.{◌≡◌, ◌≢◌, ℕ, zero, suc, ◌+◌, ◌-◌, ◌*◌, ◌<◌, ◌≤◌, min, Bool, true, false, List, [], ◌∷◌, ◌++◌, length, take, drop, reverse, Option, Some, None, Result, Ok, Err, IsSomeAnd, refl, ap, sym, ◌∙◌, arith, lit<, if◌then◌else◌}
-use Rattle.std.proofs.lemmas.List.{take-take, drop-take, drop-drop, length-take, take_all}
+use Rattle.std.proofs.Common.{◌≡◌, ℕ, ◌+◌, ◌≤◌, Bool, true, false, List, length, take, drop, reverse, Option, Some, None, IsSomeAnd, refl, ap, sym, ◌∙◌, arith, if◌then◌else◌}
+use Rattle.std.proofs.lemmas.List.{take-take, drop-take, drop-drop, length-take}
 use Rattle.byte_core.specs.Number.{bytes_at, big_number_at, little_number}
-use Rattle.byte_core.specs.Streams.{SourceData, ChangesFaults}
-use Rattle.byte_core.specs.Count.{Rose}
+use Rattle.byte_core.specs.Streams.{SourceData}
 use Rattle.image_read.specs.FatFile.{fat_count, fat_entry, fat_table_end, fat_entry_size, narrow_entry_at, wide_entry_at}
 use Rattle.fat_macho.specs.ClassView.{class_view}
-use Rattle.fat_macho.specs.Parse.{Class, thin, cut, fat, bitcode, archive, unknown, class_of}
-use Rattle.fat_macho.specs.Input.{FatRefusal, refusal_told, class_cause, slice_by, slice_of}
-use Rattle.fat_macho.specs.Parts.{IsClassAt, ReadFails, HasCause, TellsCause, Fails, IsThin, IsPartAt, IsCount, IsEntryAt, part_slice}
+use Rattle.fat_macho.specs.Parse.{Class, thin, class_of}
+use Rattle.fat_macho.specs.Input.{FatRefusal, refusal_told, class_cause, slice_by}
+use Rattle.fat_macho.specs.Parts.{IsClassAt, ReadFails, TellsCause, Fails, IsThin, IsPartAt, IsCount, IsEntryAt}
 use Rattle.fat_macho.specs.Reading.{HoldsRange}
 use Rattle.fat_macho.specs.declared.error.Error.{Error}
 use Rattle.fat_macho.specs.declared.error.Error.TheVariants.{Io, Goblin, NotFatBinary, InvalidMachO, DuplicatedArch, TooMany, TooLarge, OutOfMemory}
-use Rattle.fat_macho.specs.declared.error.IoCause.TheVariants.{Source, Sink, Open}
+use Rattle.fat_macho.specs.declared.error.IoCause.TheVariants.{Source}
 use Rattle.fat_macho.specs.declared.input.Entry.{Entry}
 use Rattle.fat_macho.specs.declared.input.Part.{Part}
 use Rattle.fat_macho.specs.declared.parse.InputClass.{InputClass}

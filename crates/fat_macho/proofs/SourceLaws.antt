@@ -1,16 +1,15 @@
 -- A source is added.
-use Rattle.std.proofs.Common.{◌≡◌, ℕ, zero, suc, ◌+◌, ◌<◌, ◌≤◌, Bool, true, false, List, [], ◌∷◌, ◌++◌, length, map, slice_get, Option, Some, None, option_map, IsSome, IsSomeAnd, IfSome, Result, Ok, Err, OnOk, OnErr, IfErr, refl, ap, sym, ◌∙◌, arith, subst, ◌⊎◌, inl, inr}
+use Rattle.std.proofs.Common.{◌≡◌, ℕ, zero, suc, Bool, true, List, [], ◌∷◌, ◌++◌, length, map, slice_get, Option, Some, None, IsSomeAnd, IfSome, Result, Ok, Err, refl, ap, sym, ◌∙◌, subst, inr}
 use Rattle.std.specs.List.{AllByRecursion, AllZip}
-use Rattle.byte_core.specs.Number.{bytes_at}
 use Rattle.byte_core.specs.Streams.{SourceData, HasLength, ChangesFaults}
 use Rattle.fat_macho.specs.AddedViews.{HoldsPart, IsSliceOf, part_view, IsSeenPart}
 use Rattle.fat_macho.specs.Adding.{TellsAdd}
-use Rattle.fat_macho.specs.Held.{Held, Origin, source, shape_held, held_before, shapes_held, with_input, IsTaken, IsAddError, unknown_slice, AddsShapes}
-use Rattle.fat_macho.specs.HeldViews.{raw_shape, known_range, faults_in, held_view, held_list, LiesInSource, IsPlaced, AreOthers, IsWriter}
-use Rattle.fat_macho.specs.Input.{FatRefusal, refusal_told, joining_cause, input_cause, add_cause}
-use Rattle.fat_macho.specs.Parts.{Pairwise, IsInside, AreApart, AreParts, ReadFails, Fails}
+use Rattle.fat_macho.specs.Held.{Held, source, held_before, shapes_held, with_input, IsTaken, IsAddError, unknown_slice, AddsShapes}
+use Rattle.fat_macho.specs.HeldViews.{raw_shape, known_range, faults_in, held_view, held_list, LiesInSource, IsPlaced, IsWriter}
+use Rattle.fat_macho.specs.Input.{FatRefusal, joining_cause, input_cause, add_cause}
+use Rattle.fat_macho.specs.Parts.{IsInside, AreParts, ReadFails, Fails}
 use Rattle.fat_macho.specs.ShapeView.{shape_view}
-use Rattle.fat_macho.specs.Slices.{Shape, by_shape, all_inserted, in_order_by}
+use Rattle.fat_macho.specs.Slices.{by_shape, all_inserted, in_order_by}
 use Rattle.fat_macho.specs.declared.added.InputBytes.TheVariants as from
 use Rattle.fat_macho.specs.declared.error.Error.{Error}
 use Rattle.fat_macho.specs.declared.error.Error.TheVariants.{Io, Goblin, NotFatBinary, InvalidMachO, DuplicatedArch, TooMany, TooLarge, OutOfMemory}

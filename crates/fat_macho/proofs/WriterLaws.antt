@@ -1,20 +1,18 @@
 -- A writer keeps to its rules when slices are put to it.
-use Rattle.std.proofs.Common.{◌≡◌, ℕ, ◌+◌, ◌^◌, ◌<◌, ◌≤◌, Bool, true, false, List, [], ◌∷◌, ◌++◌, length, map, find, Option, Some, None, option_map, refl, ap, sym, ◌∙◌, arith, subst}
-use Rattle.std.specs.List.{AllByRecursion, AllZip}
+use Rattle.std.proofs.Common.{◌≡◌, List, [], ◌∷◌, ◌++◌, map, find, None, refl, ap, sym, ◌∙◌, arith, subst}
+use Rattle.std.specs.List.{AllByRecursion}
 use Rattle.std.proofs.lemmas.List.{length-map, map-append}
 use Rattle.std.proofs.Math.ListN.{length-append}
-use Rattle.byte_core.specs.Number.{bytes_at}
-use Rattle.byte_core.specs.Streams.{SourceData, HasLength, ChangesFaults}
-use Rattle.fat_macho.specs.Held.{Held, shape_held, held_before, shapes_held, held_slice}
+use Rattle.byte_core.specs.Streams.{SourceData, HasLength}
+use Rattle.fat_macho.specs.Held.{shape_held, held_before, shapes_held}
 use Rattle.fat_macho.specs.HeldViews.{raw_shape, held_view, held_list, IsPlaced, AreOthers, IsWriter}
 use Rattle.fat_macho.specs.Input.{joining_cause, is_among}
-use Rattle.fat_macho.specs.Layout.{total_of}
 use Rattle.fat_macho.specs.Parts.{Pairwise}
-use Rattle.fat_macho.specs.Slices.{Shape, share_arch, by_shape, all_inserted, in_order_by, shapes_in_order}
+use Rattle.fat_macho.specs.Slices.{by_shape, all_inserted, in_order_by, shapes_in_order}
 use Rattle.fat_macho.specs.declared.held.HeldSlice.{HeldSlice}
 use Rattle.fat_macho.proofs.InputLaws.{share_turn}
 use Rattle.fat_macho.proofs.JoiningLaws.{AreAllowed, allowed, none_among}
-use Rattle.fat_macho.proofs.OrderLaws.{Differ, AllDiffer, put_in, seen_in_order}
+use Rattle.fat_macho.proofs.OrderLaws.{AllDiffer, put_in, seen_in_order}
 use Rattle.fat_macho.proofs.RankLaws.{each_in_order, each_append, pairs_in_order, pairs_append, length-in_order, in_order_stays, differ_seen}
 
 pub no_writer : (sources : List SourceData) → AllByRecursion HasLength sources → IsWriter sources []

@@ -1,9 +1,10 @@
 -- What a contract sees of a writer of fat files.
-use Rattle.std.specs.Prelude.{◌≡◌, ℕ, ◌≤◌, ◌<◌, ◌⊎◌, nat_lt, Bool, not, true, List, [], ◌∷◌, ◌++◌, length, map, filter, find, slice_get, Option, Some, None, option_map, option_and_then, IfSome, IsSome, IsSomeAnd, Result, IfOk, IfErr, OnOk, OnErr}
+use Rattle.std.specs.Prelude.{◌≡◌, ℕ, ◌≤◌, ◌<◌, ◌⊎◌, Bool, not, List, [], ◌∷◌, ◌++◌, length, take, map, filter, find, slice_get, Option, Some, None, option_map, option_and_then, IfSome, IsSome, IsSomeAnd, Result, IfErr, OnOk, OnErr}
 use Rattle.std.specs.List.{All}
 use Rattle.byte_core.specs.Count.{Rose}
 use Rattle.byte_core.specs.Outside.{Appends, AppendsFront}
 use Rattle.goblin_mach.specs.Architectures.{pair_named}
+use Rattle.image_read.specs.FatFile.{fat_count, has_wide_entries, fat_table_end}
 use Rattle.fat_macho.specs.Adding.{TellsAdd}
 use Rattle.fat_macho.specs.FatHolds.{FatHolds}
 use Rattle.fat_macho.specs.Input.{input_slices, refusal_told, joining_cause, add_cause}
@@ -83,9 +84,13 @@ NamedRose old new name = IsSomeAnd (slice_named old name) (λ h. IsSomeAnd (slic
 pub record TakesFile (held : List Held) (old new : Option (List ℕ)) : Type 0 where
   pub file : IfSome (known_slices held) (λ slices. (b : List ℕ) × All (λ x. x < 256) b × FatHolds b slices × Appends old new b)
 
--- or a front of them
+-- the bytes up to the end of the table that the header tells
+abbrev pub TableIsBytes : List ℕ → Type 0
+TableIsBytes b = All (λ x. x < 256) (take (fat_table_end (has_wide_entries b) (fat_count b)) b)
+
+-- or a front of the bytes of such a file
 pub record TakesFront (held : List Held) (old new : Option (List ℕ)) : Type 0 where
-  pub file : IfSome (known_slices held) (λ slices. (b : List ℕ) × All (λ x. x < 256) b × FatHolds b slices × AppendsFront old new b)
+  pub file : IfSome (known_slices held) (λ slices. (b : List ℕ) × TableIsBytes b × FatHolds b slices × AppendsFront old new b)
 
 -- the count of the source of some held slice rose
 pub record SomeRose (old new : List Held) : Type 0 where

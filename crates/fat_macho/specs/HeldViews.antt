@@ -1,5 +1,5 @@
 -- The slice that a writer's entry stands for.
-use Rattle.std.specs.Prelude.{◌≡◌, ℕ, ◌+◌, ◌^◌, ◌<◌, ◌≤◌, List, [], ◌∷◌, length, map, slice_get, Option, Some, None, option_map, option_and_then, IsSomeAnd, false}
+use Rattle.std.specs.Prelude.{◌≡◌, ℕ, ◌+◌, ◌^◌, ◌<◌, ◌≤◌, List, length, map, slice_get, Option, Some, None, option_map, IsSomeAnd, false}
 use Rattle.std.specs.List.{AllByRecursion}
 use Rattle.std.specs.Rc.{rc_slice_items}
 use Rattle.byte_core.specs.Number.{bytes_at}

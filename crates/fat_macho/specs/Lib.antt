@@ -9,6 +9,11 @@ pub mod Laws
 pub mod ClassView
 pub mod ShapeView
 pub mod LayoutView
+pub mod LayoutSteps
+pub mod Named
+pub mod FatBytes
+pub mod Writing
+pub mod Filing
 pub mod Reading
 pub mod Parts
 pub mod Adding

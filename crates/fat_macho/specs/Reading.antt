@@ -1,5 +1,5 @@
 -- What a buffer holds of a source.
-use Rattle.std.specs.Prelude.{◌≡◌, ℕ, List, take, Option, Some, None}
+use Rattle.std.specs.Prelude.{◌≡◌, ℕ, List, take, Option, Some}
 use Rattle.byte_core.specs.Number.{bytes_at}
 
 -- the first n bytes of the buffer are those from this place on, where they are known

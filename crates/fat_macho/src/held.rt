@@ -51,7 +51,7 @@ impl Shaped for HeldSlice<'_> {
 
 impl HeldSlice<'_> {
     /// How many bytes it has.
-    fn size(&self) -> u64
+    pub fn size(&self) -> u64
         ensures { result ≡ (raw_shape self.now).size }
     {
         match &self.bytes {

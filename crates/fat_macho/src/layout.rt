@@ -2,11 +2,15 @@
 
 ghost use Rattle.std.specs.Prelude.{◌≡◌, ◌<◌, ◌≤◌, ◌+◌, ◌^◌, length, map};
 ghost use Rattle.std.specs.Int.{next_multiple_of};
+ghost use Rattle.std.specs.List.{AllByRecursion};
 ghost use Rattle.image_read.specs.FatFile.{fat_table_end};
 ghost use Rattle.fat_macho.specs.Layout.{fat_layout, layout_of, end_from, sizes_of, greatest_align};
+ghost use Rattle.fat_macho.specs.FatBytes.{FitsShape};
 ghost use Rattle.fat_macho.specs.LayoutView.{AreNumbersOf};
+ghost use Rattle.fat_macho.specs.ShapeView.{shape_view};
+ghost use Rattle.fat_macho.specs.Slices.{align_of};
 
-use crate::shape::Shaped;
+use crate::shape::{Shaped, SliceShape};
 
 /// The width of the entries of a fat file, the alignment of its slices in bytes, and its length.
 #[derive(Clone, Copy, Debug)]
@@ -28,7 +32,10 @@ const ENTRY_64_SIZE: u64 = 32;
 #[tactic(auto, unfolding(crate::specs::Layout::fat_layout, crate::specs::Layout::layout_of))]
 pub fn layout_of<T: Shaped>(slices: &[T]) -> LayoutNumbers
     requires { length slices.now < 2 ^ 33 }
-    ensures { AreNumbersOf result (fat_layout (map T.shape slices.now)) }
+    ensures numbers { AreNumbersOf result (fat_layout (map T.shape slices.now)) }
+    ensures some { 0 < result.align }
+    ensures bound { result.align ≤ 0x4000 }
+    ensures fits { AllByRecursion FitsShape (map T.shape slices.now) }
 {
     let align = greatest_align(slices);
     let count = slices.len() as u64;
@@ -65,12 +72,23 @@ fn greatest_align<T: Shaped>(slices: &[T]) -> u64
     ensures value { result ≡ greatest_align (map T.shape slices.now) }
     ensures some { 0 < result }
     ensures bound { result ≤ 0x4000 }
+    ensures fits { AllByRecursion FitsShape (map T.shape slices.now) }
 {
     let mut align = 1;
     for slice in slices {
-        align = align.max(slice.shape().align());
+        align = align.max(align_of(slice.shape()));
     }
     align
+}
+
+// The alignment of a slice in bytes.
+fn align_of(shape: SliceShape) -> u64
+    ensures value { result ≡ align_of (shape_view shape) }
+    ensures some { 0 < result }
+    ensures bound { result ≤ 0x4000 }
+    ensures fits { FitsShape (shape_view shape) }
+{
+    shape.align()
 }
 
 // Where the last of some slices ends.

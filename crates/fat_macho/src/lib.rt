@@ -8,19 +8,25 @@
 mod added;
 mod architecture;
 mod error;
+mod filing;
 mod held;
 mod input;
 mod joining;
 mod laws;
 mod layout;
+mod named;
 mod order;
 mod parse;
 mod read;
 mod reading;
 mod shape;
+mod steps;
+mod table;
 mod writer;
+mod writing;
 
 pub use error::{Error, InvalidCase, IoCause};
 pub use laws::layout_laws;
 pub use read::FatReader;
+pub use steps::{LayoutStep, LayoutSteps};
 pub use writer::FatWriter;

@@ -1,24 +1,29 @@
 //! Writing of fat files.
 
-ghost use Rattle.std.specs.Prelude.{◌≡◌, ◌==◌, ◌^◌, ◌<◌, [], ◌∷◌, ◌++◌, length, map, true, IfSome, IfErr, OnOk, OnErr, None};
+ghost use Rattle.std.specs.Prelude.{◌≡◌, ◌==◌, ◌^◌, ◌<◌, ◌≤◌, ◌⊎◌, [], ◌∷◌, ◌++◌, length, map, true, is_some, IfSome, IfErr, OnOk, OnErr, None};
 ghost use Rattle.std.specs.Rc.{rc_slice_items};
 ghost use Rattle.std.specs.Vec.{vec_len, vec_capacity};
+ghost use Rattle.byte_core.specs.Count.{Rose};
 ghost use Rattle.fat_macho.specs.Adding.{TellsAdd};
-ghost use Rattle.fat_macho.specs.Held.{borrowed, owned, shapes_held, IsAdded, IsTaken, IsAddError, AddsShapes};
+ghost use Rattle.fat_macho.specs.Held.{borrowed, owned, shapes_held, slice_named, IsAdded, IsTaken, IsAddError, AddsShapes, KeepsSlices, TakesFile, TakesFront, SomeRose};
 ghost use Rattle.fat_macho.specs.HeldViews.{raw_shape};
 ghost use Rattle.fat_macho.specs.Input.{joining_cause};
 ghost use Rattle.fat_macho.specs.Layout.{total_of};
+ghost use Rattle.fat_macho.specs.LayoutSteps.{layout_steps};
 ghost use Rattle.fat_macho.specs.declared.error.Error.TheVariants.{Io};
-ghost use Rattle.fat_macho.specs.declared.error.IoCause.TheVariants.{Source as SourceFault};
+ghost use Rattle.fat_macho.specs.declared.error.IoCause.TheVariants.{Source as SourceFault, Sink as SinkFault};
 ghost use Rattle.fat_macho.specs.Slices.{by_shape, all_inserted, in_order_by};
 
 use crate::Error;
 use crate::added::{InputBytes, held_parts, owned_parts};
+use crate::filing::write_fat;
 use crate::held::HeldSlice;
 use crate::input::input_parts;
 use crate::joining::{judge, total_of};
+use crate::named::place_named;
 use crate::order::put_all_in_order;
-use byte_core::{PlainSource, Source};
+use crate::steps::{LayoutSteps, steps_of};
+use byte_core::{PlainSource, Sink, Source};
 use std::alloc::Global;
 use std::marker::Model;
 use std::rc::RcSlice;
@@ -69,11 +74,25 @@ impl<'a, S: Source + Drop> FatWriter<'a, S> {
         self.slices.is_empty()
     }
 
+    /// Whether there is a slice of the architecture of this name.
+    pub fn exists(&self, arch: &str) -> bool
+        ensures { result ≡ is_some (slice_named self.now arch.now) }
+    {
+        place_named(&self.slices, arch).is_some()
+    }
+
     /// How long the fat file is in bytes, 0 without slices.
     pub fn total_size(&self) -> u64
         ensures { result ≡ total_of (shapes_held self.now) }
     {
         total_of(&self.slices) as u64
+    }
+
+    /// Where each slice stands in the fat file, in the order of the file.
+    pub fn layout(&self) -> LayoutSteps<'_>
+        ensures { result ≡ layout_steps (shapes_held self.now) }
+    {
+        steps_of(&self.slices)
     }
 
     /// Adds a thin image, or all slices of a fat file in one step.
@@ -119,6 +138,23 @@ impl<'a, S: Source + Drop> FatWriter<'a, S> {
         join(self.alloc, &mut self.slices, slices)?;
         push_reserved(&mut self.sources, source);
         Ok(())
+    }
+
+    /// Writes the fat file behind what the sink took, nothing where there are no slices. Where a read or a write fails, a
+    /// front of the file was written.
+    pub fn write_to<W: Sink>(&mut self, sink: &mut W) -> Result<(), Error>
+        ensures ok { OnOk result (TakesFile self.old (W.sink sink.old).written (W.sink sink.new).written) }
+        ensures front { OnErr result (TakesFront self.old (W.sink sink.old).written (W.sink sink.new).written) }
+        ensures reading { IfErr result (λ e. e ≡ Io SourceFault → SomeRose self.old self.new) }
+        ensures writing { IfErr result (λ e. e ≡ Io SinkFault → Rose (W.sink sink.old).faults (W.sink sink.new).faults) }
+        ensures causes { IfErr result (λ e. (e ≡ Io SourceFault) ⊎ (e ≡ Io SinkFault)) }
+        ensures rises { (W.sink sink.old).faults ≤ (W.sink sink.new).faults }
+        ensures kept { KeepsSlices self.old self.new }
+    {
+        if self.slices.is_empty() {
+            return Ok(());
+        }
+        write_fat(&mut self.sources, sink, &self.slices)
     }
 }
 

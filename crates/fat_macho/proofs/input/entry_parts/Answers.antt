@@ -1,6 +1,5 @@
 use Rattle.std.proofs.Common.{◌≤◌, ◌+◌, arith}
 use Rattle.std.proofs.lemmas.Result.{err_from_is_err_and}
-use Rattle.image_read.specs.FatFile.{fat_table_end}
 use Rattle.fat_macho.proofs.Fronts.{no_faults, faults_again}
 use Rattle.fat_macho.proofs.InputLaws.{no_parts, parts_still, parts_before, table_end_le, entries_fail}
 use Rattle.fat_macho.proofs.input.entry_parts.Goals as goal

@@ -1,4 +1,4 @@
-use Rattle.std.proofs.Common.{◌≡◌, None, map, find, sym, ap, ◌∙◌, arith, option_map}
+use Rattle.std.proofs.Common.{◌≡◌, None, map, find, sym, ap, ◌∙◌, option_map}
 use Rattle.fat_macho.specs.Input.{is_among}
 use Rattle.fat_macho.specs.ShapeView.{shape_view}
 use Rattle.fat_macho.proofs.JoiningLaws.{large_tells, none_tells, total_is, few_shapes}

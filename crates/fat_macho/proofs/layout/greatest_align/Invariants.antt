@@ -1,4 +1,6 @@
-use Rattle.std.proofs.Common.{◌≡◌, ◌<◌, ◌≤◌, max, map, drop, fold}
+use Rattle.std.proofs.Common.{◌≡◌, ◌<◌, ◌≤◌, max, map, drop, take, fold}
+use Rattle.std.specs.List.{AllByRecursion}
+use Rattle.fat_macho.specs.FatBytes.{FitsShape}
 use Rattle.fat_macho.specs.Layout.{greatest_align}
 use Rattle.fat_macho.specs.Slices.{align_of}
 use Rattle.fat_macho.proofs.layout.greatest_align.Given as goal
@@ -10,4 +12,5 @@ invariant-loop-slice g l =
       all : fold (λ align a. max align (align_of a)) l.align (map g.T.Shaped.shape (drop l.slice-index l.slices)) ≡ greatest_align (map g.T.Shaped.shape l.slices);
       some : 0 < l.align;
       bound : l.align ≤ 0x4000;
+      fits : AllByRecursion FitsShape (map g.T.Shaped.shape (take l.slice-index l.slices));
     }

@@ -1,11 +1,11 @@
-use Rattle.std.proofs.Common.{◌≡◌, List, map, refl, length, Some, ap, sym, ◌∙◌}
+use Rattle.std.proofs.Common.{List, map, refl, length, Some, ap}
 use Rattle.std.specs.List.{AllByRecursion, AllZip}
 use Rattle.std.proofs.lemmas.Result.{err_from_is_err_and}
 use Rattle.byte_core.specs.Streams.{SourceData}
 use Rattle.fat_macho.specs.AddedViews.{IsSliceOf}
 use Rattle.fat_macho.specs.Held.{borrowed, shapes_held, IsAdded}
-use Rattle.fat_macho.specs.HeldViews.{IsWriter, held_list}
-use Rattle.fat_macho.specs.Parts.{IsInside, AreParts}
+use Rattle.fat_macho.specs.HeldViews.{held_list}
+use Rattle.fat_macho.specs.Parts.{IsInside}
 use Rattle.fat_macho.specs.declared.added.InputBytes.TheVariants as from
 use Rattle.fat_macho.proofs.AddLaws.{refused_add, is_added, added_writer, borrowed_seen, borrowed_holds, sure_input_fails}
 use Rattle.fat_macho.proofs.writer.FatWriter.add.Goals as goal

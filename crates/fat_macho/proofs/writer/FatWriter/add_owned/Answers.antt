@@ -1,11 +1,10 @@
-use Rattle.std.proofs.Common.{◌≡◌, List, ℕ, map, refl, length, Some, ap, sym, ◌∙◌}
-use Rattle.std.specs.List.{AllByRecursion, AllZip}
+use Rattle.std.proofs.Common.{◌≡◌, List, map, refl, length, Some, ap, ◌∙◌}
+use Rattle.std.specs.List.{AllZip}
 use Rattle.std.proofs.lemmas.Result.{err_from_is_err_and}
 use Rattle.byte_core.specs.Streams.{SourceData}
-use Rattle.fat_macho.specs.AddedViews.{AreOwnedParts, IsSeenPart}
+use Rattle.fat_macho.specs.AddedViews.{IsSeenPart}
 use Rattle.fat_macho.specs.Held.{owned, shapes_held, IsAdded}
 use Rattle.fat_macho.specs.HeldViews.{held_list}
-use Rattle.fat_macho.specs.Parts.{IsInside}
 use Rattle.fat_macho.proofs.AddLaws.{refused_add, is_added, added_writer, sure_input_fails}
 use Rattle.fat_macho.proofs.writer.FatWriter.add_owned.Goals as goal
 

@@ -1,9 +1,9 @@
-use Rattle.std.proofs.Common.{◌≡◌, List, ℕ, map, refl, length, Some, ap, sym, ◌∙◌}
+use Rattle.std.proofs.Common.{◌≡◌, List, map, refl, length, Some, ap, ◌∙◌}
 use Rattle.std.specs.List.{AllByRecursion, AllZip}
 use Rattle.std.specs.Rc.{rc_slice_items}
 use Rattle.std.proofs.lemmas.Result.{err_from_is_err_and}
 use Rattle.byte_core.specs.Streams.{SourceData}
-use Rattle.fat_macho.specs.AddedViews.{IsSliceOf, IsSeenPart}
+use Rattle.fat_macho.specs.AddedViews.{IsSeenPart}
 use Rattle.fat_macho.specs.Held.{owned, shapes_held, IsAdded}
 use Rattle.fat_macho.specs.HeldViews.{held_list}
 use Rattle.fat_macho.specs.Parts.{IsInside}

@@ -1,4 +1,4 @@
-use Rattle.std.proofs.Common.{◌≡◌, ℕ, List, length, map, ap, sym, ◌∙◌, ◌++◌, ◌∷◌, [], subst, IfSome, Result, Err, Ok}
+use Rattle.std.proofs.Common.{◌≡◌, List, length, map, ap, sym, ◌∙◌, ◌++◌, ◌∷◌, [], subst, IfSome, Result, Err, Ok}
 use Rattle.std.specs.List.{AllZip}
 use Rattle.std.proofs.lemmas.List.{length-map, map-append}
 use Rattle.std.proofs.lemmas.Result.{err_from_is_err_and}
@@ -8,7 +8,7 @@ use Rattle.fat_macho.specs.Held.{IsTaken, AddsShapes}
 use Rattle.fat_macho.specs.HeldViews.{held_list, IsWriter}
 use Rattle.fat_macho.specs.declared.added.InputBytes.TheVariants as from
 use Rattle.fat_macho.specs.declared.error.Error.{Error}
-use Rattle.fat_macho.proofs.SourceLaws.{refused_source, source_holds, unjoined_source, IsTakenSource, taken_source, told_source, adds_shapes}
+use Rattle.fat_macho.proofs.SourceLaws.{refused_source, source_holds, unjoined_source, taken_source, told_source, adds_shapes}
 use Rattle.fat_macho.proofs.writer.FatWriter.add_source.Goals as goal
 
 pub returns-in_err-parts-clause-added : goal.returns-in_err-parts-clause-added
