@@ -172,13 +172,21 @@ fn a_zero_byte_of_the_files_name_has_its_place(rt: HostRuntime) -> Result<(), Fa
 
 /// Whether the program can't read an input: status 6 with its fault text, and no output.
 fn is_not_understood(alloc: Global, line: &[String], input: &[u8]) -> Result<bool, AllocError> {
-    let mut host = MemHost::new(alloc, input, &[], NONE, 2000)?;
+    let input = input.to_vec(alloc)?;
+    let mut host = MemHost::new(alloc, &input, &[], NONE, 2000)?;
     let status = run(alloc, line, &mut host);
     Ok(
         status == 6
             && host.output().is_empty()
             && host.errors() == b"input not understood\n".as_slice(),
     )
+}
+
+/// Whether words name no command: status 2 with its fault text.
+fn are_no_command(alloc: Global, line: &[String]) -> Result<bool, AllocError> {
+    let mut host = MemHost::new(alloc, MAIN.as_bytes(), &[], NONE, 2000)?;
+    let status = run(alloc, line, &mut host);
+    Ok(status == 2 && host.errors() == b"words not understood\n".as_slice())
 }
 
 #[test]
@@ -235,11 +243,10 @@ fn bad_inputs_have_their_status(rt: HostRuntime) -> Result<(), Fail> {
         );
     }
     assert!(rt; is_not_understood(alloc, &build, b"\xff[]")?);
-    for other in [words(alloc, &[])?, words(alloc, &["build", "x"])?] {
-        let mut host = MemHost::new(alloc, MAIN.as_bytes(), &[], NONE, 2000)?;
-        assert_eq!(rt; run(alloc, &other, &mut host), 2);
-        assert!(rt; host.errors() == b"words not understood\n".as_slice());
-    }
+    let nothing = words(alloc, &[])?;
+    assert!(rt; are_no_command(alloc, &nothing)?);
+    let too_many = words(alloc, &["build", "x"])?;
+    assert!(rt; are_no_command(alloc, &too_many)?);
     Ok(())
 }
 
