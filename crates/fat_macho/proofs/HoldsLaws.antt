@@ -59,7 +59,7 @@ power_fits align = omega (arith, power_small align)
 abbrev pub entry_with : ℕ → Shape → ℕ → FatEntry
 entry_with align a offset = record { cputype = a.cputype; cpusubtype = a.cpusubtype; offset = offset; size = a.size; align = power_of align; reserved = 0 }
 
-six : (a b c d e f g h i j k l : ℕ) → a ≡ b → c ≡ d → e ≡ f → g ≡ h → i ≡ j → k ≡ l
+pub six : (a b c d e f g h i j k l : ℕ) → a ≡ b → c ≡ d → e ≡ f → g ≡ h → i ≡ j → k ≡ l
     → record { cputype = a; cpusubtype = c; offset = e; size = g; align = i; reserved = k } ≡ (let x : FatEntry = record { cputype = b; cpusubtype = d; offset = f; size = h; align = j; reserved = l } in x)
 six a b c d e f g h i j k l p q r s t u = rw (p, q, r, s, t, u) refl
 
@@ -155,7 +155,7 @@ contents_cut : (align end : ℕ) (s : Slice) (slices : List Slice) → contents_
 unfolding laid_out
 contents_cut align end s slices = refl
 
-table_next : (wide : Bool) (k : ℕ) → fat_table_end wide k + fat_entry_size wide ≡ fat_table_end wide (k + 1)
+pub table_next : (wide : Bool) (k : ℕ) → fat_table_end wide k + fat_entry_size wide ≡ fat_table_end wide (k + 1)
 table_next true k = omega arith
 table_next false k = omega arith
 
@@ -217,13 +217,13 @@ one_stands b wide align end k (suc j) (s ∷ slices) all below =
     rw same (one_stands b wide align (next_multiple_of end align + length s.bytes) (k + 1) j slices all.1 (omega (arith, below)))
 
 -- where slice k could begin, behind this place
-abbrev free_by : List Slice → List ℕ → ℕ → ℕ → ℕ
+abbrev pub free_by : List Slice → List ℕ → ℕ → ℕ → ℕ
 free_by slices offsets end k = if k == 0 then end else get_or offsets (k - 1) 0 + length (get_or (map (λ (s : Slice). s.bytes) slices) (k - 1) [])
 
 free_past : (slices : List Slice) (offsets : List ℕ) (end k : ℕ) → (k == 0) ≡ false → free_by slices offsets end k ≡ get_or offsets (k - 1) 0 + length (get_or (map (λ (s : Slice). s.bytes) slices) (k - 1) [])
 free_past slices offsets end k e = ap (λ t. if t then end else get_or offsets (k - 1) 0 + length (get_or (map (λ (s : Slice). s.bytes) slices) (k - 1) [])) e
 
-free_later : (s : Slice) (slices : List Slice) (o : ℕ) (offsets : List ℕ) (end next k : ℕ) → free_by (s ∷ slices) (o ∷ offsets) end (suc (suc k)) ≡ free_by slices offsets next (suc k)
+pub free_later : (s : Slice) (slices : List Slice) (o : ℕ) (offsets : List ℕ) (end next k : ℕ) → free_by (s ∷ slices) (o ∷ offsets) end (suc (suc k)) ≡ free_by slices offsets next (suc k)
 free_later s slices o offsets end next k =
     let two : suc (suc k) - 1 ≡ suc k = omega arith in
     let one : suc k - 1 ≡ k = omega arith in
@@ -293,11 +293,11 @@ count_stands : (b rest : List ℕ) (wide : Bool) (count : ℕ) → StandsAt b (h
 unfolding header_bytes
 count_stands b rest wide count s few = big_stands b 4 count 4 (number_first b (big_bytes 4 count) 4 (if wide then 0xcafebabf else 0xcafebabe) 0 4 (stands_left b (header_bytes wide count) rest 0 s) (magic_fits wide) refl).behind few
 
-table_start : (wide : Bool) → fat_table_end wide 0 ≡ 8
+pub table_start : (wide : Bool) → fat_table_end wide 0 ≡ 8
 table_start true = refl
 table_start false = refl
 
-from_start : (wide : Bool) (n : ℕ) → fat_table_end wide (0 + n) ≡ fat_table_end wide n
+pub from_start : (wide : Bool) (n : ℕ) → fat_table_end wide (0 + n) ≡ fat_table_end wide n
 from_start wide n = let same : 0 + n ≡ n = omega arith in ap (fat_table_end wide) same
 
 pub file_stands : (slices : List Slice) (wide : Bool) (align start total : ℕ) (b : List ℕ) → b ≡ header_bytes wide (length slices) ++ (rows_from wide align start (map shape_of slices) ++ contents_from align start slices) → start ≡ fat_table_end wide (length slices)
@@ -370,7 +370,7 @@ holds_at b start slices l f place at =
 abbrev AreBytes : List ℕ → Type 0
 AreBytes xs = All (λ x. x < 256) xs
 
-bytes_turned : (xs : List ℕ) → AreBytes xs → AreBytes (reverse xs)
+pub bytes_turned : (xs : List ℕ) → AreBytes xs → AreBytes (reverse xs)
 bytes_turned [] h = h
 bytes_turned (x ∷ xs) h = subst AreBytes (sym (reverse_onto xs x [])) (All-append (λ x. x < 256) (reverse xs) (x ∷ []) (bytes_turned xs (All-tail (λ x. x < 256) x xs h)) (All-cons (λ x. x < 256) x [] (All-head (λ x. x < 256) x xs h) (All-nil (λ x. x < 256))))
 

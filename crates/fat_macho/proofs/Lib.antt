@@ -3,21 +3,21 @@ mod FileExamples
 mod LayoutLaws
 mod WideLaws
 mod FirstEntry
-mod Fronts
+pub mod Fronts
 mod Places
-mod OrderLaws
+pub mod OrderLaws
 mod Classes
 mod PartLaws
-mod RankLaws
+pub mod RankLaws
 mod WriterLaws
 mod AddedLaws
 mod AddLaws
 mod OwnedLaws
 mod SourceLaws
 mod Results
-mod Pairs
-mod InputLaws
-mod JoiningLaws
+pub mod Pairs
+pub mod InputLaws
+pub mod JoiningLaws
 mod StepLaws
 mod NamedLaws
 mod PutLaws
@@ -28,3 +28,8 @@ mod LaysLaws
 mod FileLaws
 mod HoldsLaws
 mod TakenLaws
+mod ShrinkLaws
+mod RemoveLaws
+mod SortLaws
+mod ExtractLaws
+mod OneFileLaws

@@ -1,4 +1,5 @@
 pub mod Errors
+pub mod Texts
 pub mod Parse
 pub mod Slices
 pub mod Layout
@@ -20,3 +21,4 @@ pub mod Adding
 pub mod Held
 pub mod HeldViews
 pub mod AddedViews
+pub mod Removing

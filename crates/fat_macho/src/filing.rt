@@ -196,9 +196,9 @@ fn write_slice<S: Source, W: Sink>(
     }
 }
 
-// A range of bytes that others share.
+/// A range of bytes that others share.
 #[tactic(auto, unfolding(byte_core::specs::Number::bytes_at))]
-fn shared_range(bytes: &RcSlice<u8>, offset: usize, size: usize) -> &[u8]
+pub fn shared_range(bytes: &RcSlice<u8>, offset: usize, size: usize) -> &[u8]
     requires { offset + size ≤ length (rc_slice_items bytes.now) }
     ensures { result.now ≡ bytes_at (rc_slice_items bytes.now) offset size }
 {

@@ -8,6 +8,7 @@
 mod added;
 mod architecture;
 mod error;
+mod files;
 mod filing;
 mod held;
 mod input;
@@ -19,6 +20,7 @@ mod order;
 mod parse;
 mod read;
 mod reading;
+mod removing;
 mod shape;
 mod steps;
 mod table;

@@ -1,16 +1,17 @@
 //! Writing of fat files.
 
-ghost use Rattle.std.specs.Prelude.{◌≡◌, ◌==◌, ◌^◌, ◌<◌, ◌≤◌, ◌⊎◌, [], ◌∷◌, ◌++◌, length, map, true, is_some, IfSome, IfErr, OnOk, OnErr, None};
+ghost use Rattle.std.specs.Prelude.{◌≡◌, ◌==◌, ◌^◌, ◌<◌, ◌≤◌, ◌⊎◌, ◌↔◌, [], ◌∷◌, ◌++◌, length, map, true, false, is_some, IfSome, IfOk, IfErr, OnOk, OnErr, IsOk, None};
+ghost use Rattle.std.specs.Cow.{cow_slice_items, IsBorrowedSlice};
 ghost use Rattle.std.specs.Rc.{rc_slice_items};
 ghost use Rattle.std.specs.Vec.{vec_len, vec_capacity};
 ghost use Rattle.byte_core.specs.Count.{Rose};
 ghost use Rattle.fat_macho.specs.Adding.{TellsAdd};
-ghost use Rattle.fat_macho.specs.Held.{borrowed, owned, shapes_held, slice_named, IsAdded, IsTaken, IsAddError, AddsShapes, KeepsSlices, TakesFile, TakesFront, SomeRose};
+ghost use Rattle.fat_macho.specs.Held.{borrowed, owned, shapes_held, slice_named, other_slices, IsAdded, IsTaken, IsAddError, AddsShapes, KeepsSlices, TakesFile, TakesFront, SomeRose, NamedRose};
 ghost use Rattle.fat_macho.specs.HeldViews.{raw_shape};
 ghost use Rattle.fat_macho.specs.Input.{joining_cause};
 ghost use Rattle.fat_macho.specs.Layout.{total_of};
 ghost use Rattle.fat_macho.specs.LayoutSteps.{layout_steps};
-ghost use Rattle.fat_macho.specs.declared.error.Error.TheVariants.{Io};
+ghost use Rattle.fat_macho.specs.declared.error.Error.TheVariants.{Io, OutOfMemory};
 ghost use Rattle.fat_macho.specs.declared.error.IoCause.TheVariants.{Source as SourceFault, Sink as SinkFault};
 ghost use Rattle.fat_macho.specs.Slices.{by_shape, all_inserted, in_order_by};
 
@@ -22,9 +23,11 @@ use crate::input::input_parts;
 use crate::joining::{judge, total_of};
 use crate::named::place_named;
 use crate::order::put_all_in_order;
+use crate::removing::take_out;
 use crate::steps::{LayoutSteps, steps_of};
 use byte_core::{PlainSource, Sink, Source};
 use std::alloc::Global;
+use std::borrow::CowSlice;
 use std::marker::Model;
 use std::rc::RcSlice;
 
@@ -138,6 +141,27 @@ impl<'a, S: Source + Drop> FatWriter<'a, S> {
         join(self.alloc, &mut self.slices, slices)?;
         push_reserved(&mut self.sources, source);
         Ok(())
+    }
+
+    /// Takes the slice of the architecture of this name out and gives its bytes, borrowed where they were borrowed, else owned.
+    /// None where there is no such slice. A refused call leaves the slices as they were.
+    pub fn remove(&mut self, arch: &str) -> Result<Option<CowSlice<'a, u8>>, Error>
+        ensures none { IfOk result (λ found. (found ≡ None) ↔ (slice_named self.old arch.now ≡ None)) }
+        ensures bytes { IfOk result (λ found. IfSome found (λ bytes. IfSome (slice_named self.old arch.now) (λ h. IfSome h.bytes (λ known. cow_slice_items bytes ≡ known)))) }
+        ensures lent { IfOk result (λ found. IfSome found (λ bytes. IfSome (slice_named self.old arch.now) (λ h. (h.origin ≡ borrowed) ↔ IsBorrowedSlice bytes))) }
+        ensures absent { slice_named self.old arch.now ≡ None → IsOk result }
+        ensures given { IfSome (slice_named self.old arch.now) (λ h. h.origin ≡ borrowed → IsOk result) }
+        ensures ok { OnOk result (KeepsSlices (other_slices self.old arch.now) self.new) }
+        ensures reading { IfErr result (λ e. e ≡ Io SourceFault → NamedRose self.old self.new arch.now) }
+        ensures causes { IfErr result (λ e. (e ≡ OutOfMemory) ⊎ (e ≡ Io SourceFault)) }
+        ensures sure { ((s : S) → (S.source s).can_fail ≡ false) → IfErr result (λ e. e ≡ OutOfMemory) }
+        ensures err { OnErr result (KeepsSlices self.old self.new) }
+    {
+        let Some(place) = place_named(&self.slices, arch) else {
+            return Ok(None);
+        };
+        let bytes = take_out(self.alloc, &mut self.sources, &mut self.slices, place)?;
+        Ok(Some(bytes))
     }
 
     /// Writes the fat file behind what the sink took, nothing where there are no slices. Where a read or a write fails, a

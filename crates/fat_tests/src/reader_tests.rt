@@ -1,17 +1,12 @@
 //! The reader of fat files: what it refuses, and which slice it gives.
 
+use crate::images::{ARM64, TABLE, WIDE_TABLE, X86_64, file_behind, front, image};
 use fat_macho::{Error, FatReader, InvalidCase, IoCause};
 use goblin_mach::Error as TableError;
 use std::alloc::{AllocError, Global};
 use std::test::Fail;
 
-/// The table of a fat file with 100 bytes for x86_64 at 16,384 and 50 for arm64 at 32,768.
-const TABLE: [u8; 48] = [
-    0xca, 0xfe, 0xba, 0xbe, 0, 0, 0, 2, 1, 0, 0, 7, 0, 0, 0, 3, 0, 0, 0x40, 0, 0, 0, 0, 0x64, 0, 0,
-    0, 0x0e, 1, 0, 0, 0x0c, 0, 0, 0, 0, 0, 0, 0x80, 0, 0, 0, 0, 0x32, 0, 0, 0, 0x0e,
-];
-
-/// The whole file, with slices of ones and of twos.
+/// The file of two slices, of ones and of twos.
 fn two_slices(alloc: Global) -> Result<Vec<u8>, AllocError> {
     let mut file = TABLE.to_vec(alloc)?;
     file.resize(16384, 0)?;
@@ -19,11 +14,6 @@ fn two_slices(alloc: Global) -> Result<Vec<u8>, AllocError> {
     file.resize(32768, 0)?;
     file.resize(32818, 2)?;
     Ok(file)
-}
-
-/// The first bytes of a file, as many as it has of so many.
-fn front(file: &[u8], len: usize) -> &[u8] {
-    &file[..file.len().min(len)]
 }
 
 /// Why there is no reader of these bytes.
@@ -104,6 +94,20 @@ fn other_files_are_refused_by_their_first_bytes(rt: HostRuntime) {
         refusal(b"!<arch>"),
         Some(Error::Goblin(TableError::BadMagic(0x213c_6172)))
     );
+}
+
+#[test]
+fn images_and_wide_tables_have_no_reader(rt: HostRuntime) -> Result<(), Fail> {
+    let alloc = rt.alloc();
+    for image in [image(alloc, &X86_64, 100)?, image(alloc, &ARM64, 50)?] {
+        assert_eq!(rt; refusal(&image), Some(Error::NotFatBinary));
+    }
+    let wide = file_behind(alloc, &WIDE_TABLE)?;
+    assert_eq!(rt;
+        refusal(&wide),
+        Some(Error::InvalidMachO(InvalidCase::Fat64))
+    );
+    Ok(())
 }
 
 #[test]
