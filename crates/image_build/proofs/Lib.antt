@@ -1,2 +1,6 @@
 pub mod FirstRefused
 pub mod PartCause
+pub mod Told
+pub mod PartLists
+pub mod FatLists
+pub mod FatCauses

@@ -1,5 +1,5 @@
 -- The first cause of a part, found step by step, and the errors that tell it.
-use Rattle.std.proofs.Common.{◌≡◌, ℕ, ◌+◌, ◌<◌, List, [], ◌∷◌, length, count_by, arith, Option, Some, None, option_map, IfSome, refl, ap, sym, ◌∙◌, subst}
+use Rattle.std.proofs.Common.{◌≡◌, ℕ, ◌+◌, ◌<◌, List, [], length, count_by, arith, Option, Some, None, option_map, IfSome, refl, ap, sym, ◌∙◌, subst}
 use Rattle.std.specs.Option.{IsSomeAnd, IsSome}
 use Rattle.std.proofs.lemmas.List.Sums.{count_by-le-length}
 use Rattle.object_core.specs.declared.error.EmitError.{EmitError}
@@ -20,9 +20,9 @@ use Rattle.cranelift_object.specs.EndCause.{end_cause}
 use Rattle.cranelift_object.specs.Linked.{object_of, link_table}
 use Rattle.cranelift_object.specs.Part.{PartData, PartRefusal, at_start, at_call, at_end, over, start_cause, first_refused, part_cause, part_state, limit_of}
 use Rattle.cranelift_object.specs.Emitted.{IsObjectFile}
-use Rattle.image_build.specs.Built.{FileHolds, commands, build_cause, TellsBuild, TellsPlace, TellsCause, TellsOver}
+use Rattle.image_build.specs.Built.{FileHolds, by_module, Refused, TellsPart, TellsPlace, TellsCause, TellsOver}
 use Rattle.image_build.specs.declared.error.BuildCause.{BuildCause}
-use Rattle.image_build.specs.declared.error.BuildCause.TheVariants.{Module, TooMany, TooLarge, Mixed, OutOfMemory}
+use Rattle.image_build.specs.declared.error.BuildCause.TheVariants.{Module, Fat, TooMany, TooLarge, Mixed, OutOfMemory}
 use Rattle.image_build.specs.declared.error.Place.TheVariants.{Start, Command, End}
 use Rattle.image_build.proofs.FirstRefused.{at_pair, first_refused-calls, accepted-state}
 
@@ -70,19 +70,21 @@ told_of e f told is same some tells holds = subst (λ x. IsSomeAnd (refusal_told
   go None s t = absurd (cc)
   go (Some r) s t = holds r t
 
-start_told : (e : ModuleError) (c : BuildCause) (told : Option Refusal) (is : PartRefusal → Type 0) → TellsCause e c → Tells e told → ((r : Refusal) → told ≡ Some r → is (at_start r)) → TellsPlace Start c is
+start_told : (e : ModuleError) (c : BuildCause) (told : Option Refusal) (is : Refused → Type 0) → TellsCause e c → Tells e told → ((r : Refusal) → told ≡ Some r → is (by_module (at_start r))) → TellsPlace Start c is
 start_told e OutOfMemory told is t h holds = tt
-start_told e (Module f) told is t h holds = told_of e f told (λ r. is (at_start r)) t.0 t.1 h holds
+start_told e (Module f) told is t h holds = told_of e f told (λ r. is (by_module (at_start r))) t.0 t.1 h holds
 start_told e (TooMany what count) told is t h holds = absurd t
 start_told e (TooLarge what amount) told is t h holds = absurd t
 start_told e Mixed told is t h holds = absurd t
+start_told e (Fat f) told is t h holds = absurd t
 
-end_told : (e : ModuleError) (c : BuildCause) (told : Option Refusal) (is : PartRefusal → Type 0) → TellsCause e c → Tells e told → ((r : Refusal) → told ≡ Some r → is (at_end r)) → TellsPlace End c is
+end_told : (e : ModuleError) (c : BuildCause) (told : Option Refusal) (is : Refused → Type 0) → TellsCause e c → Tells e told → ((r : Refusal) → told ≡ Some r → is (by_module (at_end r))) → TellsPlace End c is
 end_told e OutOfMemory told is t h holds = tt
-end_told e (Module f) told is t h holds = told_of e f told (λ r. is (at_end r)) t.0 t.1 h holds
+end_told e (Module f) told is t h holds = told_of e f told (λ r. is (by_module (at_end r))) t.0 t.1 h holds
 end_told e (TooMany what count) told is t h holds = absurd t
 end_told e (TooLarge what amount) told is t h holds = absurd t
 end_told e Mixed told is t h holds = absurd t
+end_told e (Fat f) told is t h holds = absurd t
 
 call_of : (e f : ModuleError) (j : ℕ) (first : Option (ℕ × Refusal)) (is : Refusal → Type 0) → f ≡ e → IsSome (refusal_told e) → TellsAt j e first → ((r : Refusal) → first ≡ Some (j, r) → is r) → IsSomeAnd (refusal_told f) is
 call_of e f j first is same some tells holds = subst (λ x. IsSomeAnd (refusal_told x) is) (sym same) (go (refusal_told e) some tells) where
@@ -90,39 +92,38 @@ call_of e f j first is same some tells holds = subst (λ x. IsSomeAnd (refusal_t
   go None s t = absurd (cc)
   go (Some r) s t = holds r t
 
-call_told : (e : ModuleError) (c : BuildCause) (j : ℕ) (first : Option (ℕ × Refusal)) (is : PartRefusal → Type 0) → TellsCause e c → TellsAt j e first → ((r : Refusal) → first ≡ Some (j, r) → is (at_call j r)) → TellsPlace (Command j) c is
+call_told : (e : ModuleError) (c : BuildCause) (j : ℕ) (first : Option (ℕ × Refusal)) (is : Refused → Type 0) → TellsCause e c → TellsAt j e first → ((r : Refusal) → first ≡ Some (j, r) → is (by_module (at_call j r))) → TellsPlace (Command j) c is
 call_told e OutOfMemory j first is t h holds = tt
-call_told e (Module f) j first is t h holds = call_of e f j first (λ r. is (at_call j r)) t.0 t.1 h holds
+call_told e (Module f) j first is t h holds = call_of e f j first (λ r. is (by_module (at_call j r))) t.0 t.1 h holds
 call_told e (TooMany what count) j first is t h holds = absurd t
 call_told e (TooLarge what amount) j first is t h holds = absurd t
 call_told e Mixed j first is t h holds = absurd t
+call_told e (Fat f) j first is t h holds = absurd t
 
-over_told : (e : EmitError) (c : BuildCause) (told : Option EmitError) (is : PartRefusal → Type 0) → TellsOver e c → TellsLimit e told → ((l : EmitError) → told ≡ Some l → is (over l)) → TellsPlace End c is
+over_told : (e : EmitError) (c : BuildCause) (told : Option EmitError) (is : Refused → Type 0) → TellsOver e c → TellsLimit e told → ((l : EmitError) → told ≡ Some l → is (by_module (over l))) → TellsPlace End c is
 over_told e OutOfMemory told is t h holds = tt
 over_told e (Module f) told is t h holds = absurd t
 over_told e (TooMany what count) told is t h holds = holds (limits.TooMany what count) (subst (λ x. TellsLimit x told) t h)
 over_told e (TooLarge what amount) told is t h holds = holds (limits.TooLarge what amount) (subst (λ x. TellsLimit x told) t h)
 over_told e Mixed told is t h holds = absurd t
+over_told e (Fat f) told is t h holds = absurd t
 
-refused_by : (part : PartData) (r : PartRefusal) → part_cause part ≡ Some r → build_cause (commands part ∷ []) ≡ Some (record { part = 0; refusal = r })
+refused_by : (part : PartData) (r : PartRefusal) → part_cause part ≡ Some r → option_map (λ c. by_module c) (part_cause part) ≡ Some (by_module r)
 refused_by part r h = rw h refl
 
 -- an error at the start, at a call, at the end, and of a limit
-pub tells_start : (part : PartData) (e : ModuleError) (c : BuildCause) → TellsCause e c → Tells e (start_cause part.settings part.target) → TellsBuild (record { part = 0; place = Start; cause = c }) (build_cause (commands part ∷ []))
-tells_start part e c t h = start_told e c (start_cause part.settings part.target) _ t h (λ r k. refused_by part (at_start r) (cause_start part r k))
+pub tells_start : (n : ℕ) (part : PartData) (e : ModuleError) (c : BuildCause) → TellsCause e c → Tells e (start_cause part.settings part.target) → TellsPart (record { part = n; place = Start; cause = c }) part
+tells_start n part e c t h = start_told e c (start_cause part.settings part.target) _ t h (λ r k. refused_by part (at_start r) (cause_start part r k))
 
-pub tells_call : (part : PartData) (e : ModuleError) (c : BuildCause) (j : ℕ) → IsOpened part → TellsCause e c → TellsAt j e (first_refusal (state_of part.target []) 0 part.calls)
-    → TellsBuild (record { part = 0; place = Command j; cause = c }) (build_cause (commands part ∷ []))
-tells_call part e c j o t h = call_told e c j (first_refusal (state_of part.target []) 0 part.calls) _ t h (λ r k. refused_by part (at_call j r) (cause_call part j r o k))
+pub tells_call : (n : ℕ) (part : PartData) (e : ModuleError) (c : BuildCause) (j : ℕ) → IsOpened part → TellsCause e c → TellsAt j e (first_refusal (state_of part.target []) 0 part.calls)
+    → TellsPart (record { part = n; place = Command j; cause = c }) part
+tells_call n part e c j o t h = call_told e c j (first_refusal (state_of part.target []) 0 part.calls) _ t h (λ r k. refused_by part (at_call j r) (cause_call part j r o k))
 
-pub tells_end : (part : PartData) (e : ModuleError) (c : BuildCause) → IsApplied part → TellsCause e c → Tells e (end_cause (part_state part)) → TellsBuild (record { part = 0; place = End; cause = c }) (build_cause (commands part ∷ []))
-tells_end part e c o t h = end_told e c (end_cause (part_state part)) _ t h (λ r k. refused_by part (at_end r) (cause_end part r o k))
+pub tells_end : (n : ℕ) (part : PartData) (e : ModuleError) (c : BuildCause) → IsApplied part → TellsCause e c → Tells e (end_cause (part_state part)) → TellsPart (record { part = n; place = End; cause = c }) part
+tells_end n part e c o t h = end_told e c (end_cause (part_state part)) _ t h (λ r k. refused_by part (at_end r) (cause_end part r o k))
 
-pub tells_over : (part : PartData) (e : EmitError) (c : BuildCause) → IsFinished part → TellsOver e c → TellsLimit e (limit_of (object_of part.settings (part_state part))) → TellsBuild (record { part = 0; place = End; cause = c }) (build_cause (commands part ∷ []))
-tells_over part e c o t h = over_told e c (limit_of (object_of part.settings (part_state part))) _ t h (λ l k. refused_by part (over l) (cause_over part l o k))
-
-pub valid_part : (part : PartData) → IsFinished part → limit_of (object_of part.settings (part_state part)) ≡ None → build_cause (commands part ∷ []) ≡ None
-valid_part part o h = rw (cause_none part o h) refl
+pub tells_over : (n : ℕ) (part : PartData) (e : EmitError) (c : BuildCause) → IsFinished part → TellsOver e c → TellsLimit e (limit_of (object_of part.settings (part_state part))) → TellsPart (record { part = n; place = End; cause = c }) part
+tells_over n part e c o t h = over_told e c (limit_of (object_of part.settings (part_state part))) _ t h (λ l k. refused_by part (over l) (cause_over part l o k))
 
 -- the state that a part's accepted calls leave
 pub applied_state : (part : PartData) → first_refusal (state_of part.target []) 0 part.calls ≡ None → steps (state_of part.target []) part.calls ≡ part_state part
@@ -151,9 +152,9 @@ pub part_room_for_data : (part : PartData) (m : OpenModule) (calls : List Call) 
     → length m.state.objects + count_by makes_data calls < 4294967295
 part_room_for_data part m calls opened same few = rw (opened, same) (omega (arith, no_objects part.target, count_by-le-length makes_data part.calls))
 
-pub part_call : (part : PartData) (m : OpenModule) (calls : List Call) (j : ℕ) (e : ModuleError) (c : BuildCause) → m ≡ record { settings = part.settings; state = state_of part.target [] } → start_cause part.settings part.target ≡ None → calls ≡ part.calls
-    → TellsCause e c → TellsAt j e (first_refusal m.state 0 calls) → TellsBuild (record { part = 0; place = Command j; cause = c }) (build_cause (commands part ∷ []))
-part_call part m calls j e c opened started same t told = tells_call part e c j (record { start = started }) t (rw (opened, same) at told)
+pub part_call : (n : ℕ) (part : PartData) (m : OpenModule) (calls : List Call) (j : ℕ) (e : ModuleError) (c : BuildCause) → m ≡ record { settings = part.settings; state = state_of part.target [] } → start_cause part.settings part.target ≡ None → calls ≡ part.calls
+    → TellsCause e c → TellsAt j e (first_refusal m.state 0 calls) → TellsPart (record { part = n; place = Command j; cause = c }) part
+part_call n part m calls j e c opened started same t told = tells_call n part e c j (record { start = started }) t (rw (opened, same) at told)
 
 -- the module after the part's calls
 pub record IsLeft (part : PartData) (m : OpenModule) : Type 0 where
@@ -171,8 +172,8 @@ part_left part m later calls opened started same free state settings =
       state = state ∙ (rw (opened, same) (applied_state part none));
     }
 
-pub part_end : (part : PartData) (m : OpenModule) (e : ModuleError) (c : BuildCause) → IsLeft part m → TellsCause e c → Tells e (end_cause m.state) → TellsBuild (record { part = 0; place = End; cause = c }) (build_cause (commands part ∷ []))
-part_end part m e c left t told = tells_end part e c left.passed t (rw left.state at told)
+pub part_end : (n : ℕ) (part : PartData) (m : OpenModule) (e : ModuleError) (c : BuildCause) → IsLeft part m → TellsCause e c → Tells e (end_cause m.state) → TellsPart (record { part = n; place = End; cause = c }) part
+part_end n part m e c left t told = tells_end n part e c left.passed t (rw left.state at told)
 
 finished : (part : PartData) (m : OpenModule) → IsLeft part m → end_cause m.state ≡ None → IsFinished part
 finished part m left h = record { start = left.passed.start; calls = left.passed.calls; ended = ap end_cause (sym left.state) ∙ h }
@@ -180,12 +181,12 @@ finished part m left h = record { start = left.passed.start; calls = left.passed
 same_object : (part : PartData) (m : OpenModule) (o : ObjectData) → IsLeft part m → o ≡ object_of m.settings m.state → o ≡ object_of part.settings (part_state part)
 same_object part m o left h = h ∙ rw (left.settings, left.state) refl
 
-pub part_over : (part : PartData) (m : OpenModule) (o : ObjectData) (e : EmitError) (c : BuildCause) → IsLeft part m → end_cause m.state ≡ None → o ≡ object_of m.settings m.state → TellsOver e c → TellsLimit e (limit_of o)
-    → TellsBuild (record { part = 0; place = End; cause = c }) (build_cause (commands part ∷ []))
-part_over part m o e c left ended h t told = tells_over part e c (finished part m left ended) t (rw (same_object part m o left h) at told)
+pub part_over : (n : ℕ) (part : PartData) (m : OpenModule) (o : ObjectData) (e : EmitError) (c : BuildCause) → IsLeft part m → end_cause m.state ≡ None → o ≡ object_of m.settings m.state → TellsOver e c → TellsLimit e (limit_of o)
+    → TellsPart (record { part = n; place = End; cause = c }) part
+part_over n part m o e c left ended h t told = tells_over n part e c (finished part m left ended) t (rw (same_object part m o left h) at told)
 
-pub part_valid : (part : PartData) (m : OpenModule) (o : ObjectData) → IsLeft part m → end_cause m.state ≡ None → o ≡ object_of m.settings m.state → limit_of o ≡ None → build_cause (commands part ∷ []) ≡ None
-part_valid part m o left ended h free = valid_part part (finished part m left ended) (rw (same_object part m o left h) at free)
+pub part_valid : (part : PartData) (m : OpenModule) (o : ObjectData) → IsLeft part m → end_cause m.state ≡ None → o ≡ object_of m.settings m.state → limit_of o ≡ None → part_cause part ≡ None
+part_valid part m o left ended h free = cause_none part (finished part m left ended) (rw (same_object part m o left h) at free)
 
 -- the file of the module's object is that of the part
 pub part_built : (part : PartData) (m : OpenModule) (o : ObjectData) (b : List ℕ) → IsLeft part m → o ≡ object_of m.settings m.state → IsObjectFile o b → FileHolds b (link_table part.settings (part_state part))

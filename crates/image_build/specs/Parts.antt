@@ -1,5 +1,5 @@
 -- What contracts see of the parts of a build.
-use Rattle.std.specs.Prelude.{Bool, true, false, ◌<◌, List, [], ◌∷◌, length}
+use Rattle.std.specs.Prelude.{◌<◌, length}
 use Rattle.cranelift_object.specs.Part.{PartData}
 use Rattle.image_build.specs.Built.{BuildPart, commands, image}
 use Rattle.image_build.specs.declared.part.Part.{Part}
@@ -8,13 +8,6 @@ use Rattle.image_build.specs.declared.part.Part.TheVariants as parts
 abbrev pub part_view : Part → BuildPart
 part_view (parts.Commands part) = commands part
 part_view (parts.Image bytes) = image bytes.items
-
--- the parts that are built so far: one of commands
-abbrev pub built_so_far : List BuildPart → Bool
-built_so_far [] = false
-built_so_far (commands part ∷ []) = true
-built_so_far (image bytes ∷ []) = false
-built_so_far (p ∷ q ∷ ps) = false
 
 -- a part has fewer commands than there are identifiers
 abbrev pub HasFewCalls : BuildPart → Type 0

@@ -1,11 +1,12 @@
 -- How an error of a build prints.
-use Rattle.std.specs.Prelude.{ℕ, List, ◌++◌, codes, decimal}
+use Rattle.std.specs.Prelude.{ℕ, List, ◌++◌, codes, decimal, unwrap_or}
 use Rattle.cranelift_module.specs.Texts as refusals
+use Rattle.fat_macho.specs.Texts as fat
 use Rattle.object_core.specs.declared.error.What.{What}
 use Rattle.object_core.specs.declared.error.What.TheVariants.{Sections, Symbols, Contents, Names, File}
 use Rattle.image_build.specs.declared.error.BuildError.{BuildError}
 use Rattle.image_build.specs.declared.error.BuildCause.{BuildCause}
-use Rattle.image_build.specs.declared.error.BuildCause.TheVariants.{Module, TooMany, TooLarge, Mixed, OutOfMemory}
+use Rattle.image_build.specs.declared.error.BuildCause.TheVariants.{Module, Fat, TooMany, TooLarge, Mixed, OutOfMemory}
 use Rattle.image_build.specs.declared.error.Place.{Place}
 use Rattle.image_build.specs.declared.error.Place.TheVariants.{Start, Command, End}
 
@@ -23,6 +24,7 @@ place_text End = codes "end"
 
 abbrev pub cause_text : BuildCause → List ℕ
 cause_text (Module e) = refusals.error_text e
+cause_text (Fat e) = unwrap_or (fat.error_text e) (codes "damaged fat file")
 cause_text (TooMany what count) = codes "too many " ++ (what_text what ++ (codes ": " ++ decimal count))
 cause_text (TooLarge what amount) = codes "too large " ++ (what_text what ++ (codes ": " ++ decimal amount))
 cause_text Mixed = codes "mixed parts"

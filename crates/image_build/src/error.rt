@@ -23,6 +23,8 @@ pub enum Place {
 pub enum BuildCause {
     /// The module refused a call; never its `Allocation`, which is `OutOfMemory` here.
     Module(ModuleError),
+    /// The writer of fat files refused an image, or the file of a command part; never its `OutOfMemory`, nor its `Io`.
+    Fat(fat_macho::Error),
     /// So many sections or symbols reach a limit of the format.
     TooMany { what: What, count: u64 },
     /// So many bytes reach a limit of the format.
@@ -78,6 +80,8 @@ impl fmt::Display for BuildCause {
     fn fmt<W: fmt::Write>(&self, f: &mut fmt::Formatter<W>) -> fmt::Result {
         match self {
             BuildCause::Module(error) => write!(f, "{error}"),
+            BuildCause::Fat(fat_macho::Error::Goblin(_)) => f.write_str("damaged fat file"),
+            BuildCause::Fat(error) => write!(f, "{error}"),
             BuildCause::TooMany { what, count } => {
                 let name = what_name(*what);
                 write!(f, "too many {name}: {count}")

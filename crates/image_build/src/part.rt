@@ -7,6 +7,6 @@ use cranelift_object::CommandPart;
 pub enum Part {
     /// A part that is made by the calls of a module.
     Commands(CommandPart),
-    /// The bytes of a Mach-O file, thin or fat. None is taken so far.
+    /// The bytes of a Mach-O file, thin or fat.
     Image(Vec<u8>),
 }

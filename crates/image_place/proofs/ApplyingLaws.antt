@@ -1,14 +1,15 @@
 -- Relocations that are applied one after the other.
-use Rattle.std.proofs.Common.{◌≡◌, ℕ, ◌+◌, ◌-◌, List, [], ◌∷◌, ◌++◌, take, drop, true, false, Some, None, refl, ap, sym, ◌∙◌}
-use Rattle.std.specs.Prelude.{Option, option_map}
+use Rattle.std.proofs.Common.{◌≡◌, ℕ, ◌+◌, ◌-◌, List, [], ◌∷◌, ◌++◌, take, drop, true, false, Some, None, refl, ap, sym, ◌∙◌, Bool, cond, map}
+use Rattle.std.specs.Prelude.{Option, option_map, filter}
+use Rattle.std.specs.List.{filter_map}
 use Rattle.byte_core.specs.Number.{little_bytes}
 use Rattle.byte_core.proofs.Numbers.{length-little_bytes}
 use Rattle.image_place.specs.Fixups.{FixKind, Goal, own, named, Patch, Resolved, patch_of, with_patch, with_patches, value_bytes, fixed, each_some}
 use Rattle.image_place.specs.View.{View, ViewReloc}
-use Rattle.image_place.specs.Placed.{Definition, holds_field, row_goal}
+use Rattle.image_place.specs.Placed.{Definition, fixup_at, holds_field, row_goal}
 use Rattle.image_place.specs.Leading.{Binding, led, led_name}
 use Rattle.image_place.specs.declared.leading.Led.TheVariants.{Loose, Unbound, At}
-use Rattle.image_place.specs.Applying.{goal_address, held_by, Applies}
+use Rattle.image_place.specs.Applying.{goal_address, resolved_by, held_by, Applies}
 
 some_by : (old : List ℕ) (w : Patch) (os : Option (List Patch)) → option_map (λ ws. with_patches old ws) (option_map (λ ys. w ∷ ys) os) ≡ option_map (λ ws. with_patches (with_patch old w) ws) os
 unfolding with_patches
@@ -109,3 +110,17 @@ pub patched : (old new : List ℕ) (o at w width n : ℕ) → new ≡ take o old
 patched old new o at w width n h eo ew =
     h ∙ ap (λ k. take k old ++ (little_bytes w n ++ drop (k + w) old)) eo ∙ ap (λ k. take at old ++ (little_bytes k n ++ drop (at + k) old)) ew
     ∙ ap (λ k. take at old ++ (little_bytes width n ++ drop (at + k) old)) (sym (length-little_bytes width n))
+
+-- -- the relocations that a definition holds are held again
+
+again_by : (p : ViewReloc → Bool) (r : ViewReloc) (rs : List ViewReloc) (b : Bool) → p r ≡ b → filter p (filter p rs) ≡ filter p rs → filter p (cond b (r ∷ filter p rs) (filter p rs)) ≡ cond b (r ∷ filter p rs) (filter p rs)
+again_by p r rs true e h = rw e (ap (λ xs. r ∷ xs) h)
+again_by p r rs false e h = h
+
+filter_again : (p : ViewReloc → Bool) (rs : List ViewReloc) → filter p (filter p rs) ≡ filter p rs
+filter_again p [] = refl
+filter_again p (r ∷ rs) = again_by p r rs (p r) refl (filter_again p rs)
+
+pub held_again : (F : Binding) (at : ℕ → ℕ) (v : View) (ds : List Definition) (d : Definition) (start : ℕ) (rs fields : List ViewReloc) → fields ≡ filter (λ r. holds_field start r r.kind d) rs → held_by F at v ds d start fields ≡ held_by F at v ds d start rs
+held_again F at v ds d start rs fields e =
+    ap (held_by F at v ds d start) e ∙ ap (λ xs. map (resolved_by F at) (filter_map (fixup_at v ds start d.symbol.address) xs)) (filter_again (λ r. holds_field start r r.kind d) rs)

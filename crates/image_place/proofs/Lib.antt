@@ -25,3 +25,9 @@ pub mod ApplyingLaws
 pub mod FillingLaws
 pub mod RangeSteps
 mod StandingLaws
+pub mod SpanLaws
+pub mod IndexLaws
+pub mod HolderLaws
+pub mod JudgingLaws
+pub mod GroupLaws
+pub mod FindLaws

@@ -1,8 +1,8 @@
 -- Entries that are appended one after the other.
-use Rattle.std.proofs.Common.{◌≡◌, ℕ, ◌+◌, ◌<◌, ◌≤◌, List, [], ◌∷◌, ◌++◌, length, map, take, get_or, refl, ap, sym, ◌∙◌, append_assoc, append-nil, Some, None, slice_get}
+use Rattle.std.proofs.Common.{◌≡◌, ℕ, ◌+◌, ◌<◌, ◌≤◌, List, [], ◌∷◌, ◌++◌, length, map, take, get_or, refl, ap, sym, ◌∙◌, append_assoc, append-nil, Some, None, slice_get, arith}
 use Rattle.std.specs.Prelude.{Option, flat_map}
 use Rattle.std.specs.List.{filter_map, enumerate_from}
-use Rattle.std.proofs.lemmas.List.{take_all, map_more}
+use Rattle.std.proofs.lemmas.List.{take_all, map_more, take_more, get_or-map}
 use Rattle.std.proofs.lemmas.Grind.{flat_map-append}
 use Rattle.image_place.specs.RangeRows.{definition_seen, one_or_none}
 use Rattle.image_place.specs.View.{View, ViewSection}
@@ -10,7 +10,7 @@ use Rattle.image_place.specs.Placed.{Definition, PlacedEntry}
 use Rattle.image_place.specs.Leading.{Binding}
 use Rattle.image_place.specs.Applying.{bytes_by, entry_by}
 use Rattle.image_place.specs.declared.ranges.Definition.{Definition as Row}
-use Rattle.image_place.proofs.DefinitionLaws.{enumerate_more}
+use Rattle.image_place.proofs.DefinitionLaws.{enumerate_more, long_map}
 use Rattle.image_place.proofs.RangeSteps.{filter_map_end}
 
 -- what the first i elements give, and one more
@@ -27,6 +27,14 @@ pub entry_next : (f : Definition → Option PlacedEntry) (front old new : List P
 entry_next f front old new rows i d below n o =
     n ∙ ap (λ ys. ys ++ one_or_none (f (definition_seen (get_or rows i d)))) o ∙ append_assoc front (filter_map f (map definition_seen (take i rows))) (one_or_none (f (definition_seen (get_or rows i d))))
     ∙ ap (λ ys. front ++ ys) (sym (ap (filter_map f) (map_more definition_seen rows i d below) ∙ filter_map_end f (map definition_seen (take i rows)) (definition_seen (get_or rows i d))))
+
+pub entry_row_next : (f : Definition → Option PlacedEntry) (front old new : List PlacedEntry) (rows : List Row) (ds : List Definition) (i : ℕ) (d : Row) → map definition_seen rows ≡ ds → i < length rows → new ≡ old ++ one_or_none (f (definition_seen (get_or rows i d))) → old ≡ front ++ filter_map f (take i ds)
+    → new ≡ front ++ filter_map f (take (i + 1) ds)
+entry_row_next f front old new rows ds i d same below n o =
+    let inside : i < length ds = omega (arith, below, ap length same, long_map definition_seen rows) in
+    let here : get_or ds i (definition_seen d) ≡ definition_seen (get_or rows i d) = ap (λ (xs : List Definition). get_or xs i (definition_seen d)) (sym same) ∙ get_or-map definition_seen rows i d (definition_seen d) below in
+    n ∙ ap (λ ys. ys ++ one_or_none (f (definition_seen (get_or rows i d)))) o ∙ append_assoc front (filter_map f (take i ds)) (one_or_none (f (definition_seen (get_or rows i d))))
+    ∙ ap (λ ys. front ++ ys) (ap (λ (x : Definition). filter_map f (take i ds) ++ one_or_none (f x)) (sym here) ∙ sym (ap (filter_map f) (take_more ds i (definition_seen d) inside) ∙ filter_map_end f (take i ds) (get_or ds i (definition_seen d))))
 
 -- the entry of a definition by its section and its bytes
 pub entry_valueless : (F : Binding) (at : ℕ → ℕ) (q : ℕ) (v : View) (ds : List Definition) (d : Definition) (s : ViewSection) → slice_get v.sections d.section ≡ Some s → bytes_by F at v ds d s ≡ None → entry_by F at q v ds d ≡ None

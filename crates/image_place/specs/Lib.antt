@@ -19,3 +19,7 @@ pub mod RangeRows
 pub mod Leading
 pub mod Applying
 pub mod Texts
+pub mod Spanning
+pub mod Indexed
+pub mod Grouped
+pub mod Holders

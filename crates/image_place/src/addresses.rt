@@ -1,8 +1,8 @@
 //! Address rows, found by image and symbol.
 
-ghost use Rattle.std.specs.Prelude.{◌≡◌, ◌+◌, ◌*◌, ◌^◌, IfOk, OnOk};
+ghost use Rattle.std.specs.Prelude.{◌≡◌, ◌+◌, ◌*◌, ◌^◌, true, IfOk, OnOk};
 ghost use Rattle.image_place.specs.Placed.{row_for, given};
-ghost use Rattle.image_place.specs.Finding.{FindsRows, NotesRow, row_key};
+ghost use Rattle.image_place.specs.Finding.{AreOrdered, FindsRows, NotesRow, is_row, row_key};
 
 use crate::rows::DefAddress;
 use std::alloc::{AllocError, Global};
@@ -13,19 +13,21 @@ use std::marker::Model;
 #[derive(Drop)]
 pub struct Addresses<'a> {
     rows: &'a [DefAddress],
+    // They ascend by image and symbol, and the map isn't used.
+    is_ordered: bool,
     first: BTreeMap<u128, DefAddress>,
 }
 
 impl<'a> Model for Addresses<'a> {
     ghost use Rattle.std.specs.Prelude.{List};
     ghost use Rattle.image_place.specs.Placed.{AddressRow};
-    ghost use Rattle.image_place.specs.Finding.{FindsRows};
+    ghost use Rattle.image_place.specs.Finding.{FindsBy};
 
     ghost Value = { List AddressRow };
 
     ghost view = { λ addresses. addresses.rows.now };
 
-    ghost invariant = { λ addresses. FindsRows addresses.first addresses.rows.now };
+    ghost invariant = { λ addresses. FindsBy addresses.is_ordered addresses.first addresses.rows.now };
 }
 
 impl<'a> Addresses<'a> {
@@ -33,14 +35,26 @@ impl<'a> Addresses<'a> {
     pub(crate) fn new(alloc: Global, rows: &'a [DefAddress]) -> Result<Addresses<'a>, AllocError>
         ensures { IfOk result (λ addresses. addresses ≡ rows.now) }
     {
-        let first = first_rows(alloc, rows)?;
-        Ok(Addresses { rows, first })
+        let is_ordered = are_ordered(rows);
+        let first = if is_ordered {
+            BTreeMap::new(alloc)
+        } else {
+            first_rows(alloc, rows)?
+        };
+        Ok(Addresses {
+            rows,
+            is_ordered,
+            first,
+        })
     }
 
     /// The first row of a symbol of an image.
     pub(crate) fn row(&self, image: usize, symbol: u32) -> Option<DefAddress>
         ensures { result ≡ row_for self.now image symbol }
     {
+        if self.is_ordered {
+            return ordered_row(self.rows, image, symbol);
+        }
         self.first.get(&key_of(image, symbol)).copied()
     }
 
@@ -53,6 +67,49 @@ impl<'a> Addresses<'a> {
             None => 0,
         }
     }
+}
+
+// Whether rows ascend by image and symbol.
+fn are_ordered(rows: &[DefAddress]) -> bool
+    ensures { result ≡ true → AreOrdered rows.now }
+{
+    for place in 1..rows.len() {
+        let before = rows[place - 1];
+        let here = rows[place];
+        if key_of(before.image, before.symbol) >= key_of(here.image, here.symbol) {
+            return false;
+        }
+    }
+    true
+}
+
+// The row of a symbol of an image, among rows that ascend.
+fn ordered_row(rows: &[DefAddress], image: usize, symbol: u32) -> Option<DefAddress>
+    requires order { AreOrdered rows.now }
+    ensures { result ≡ row_for rows.now image symbol }
+{
+    let key = key_of(image, symbol);
+    let mut first = 0;
+    let mut end = rows.len();
+    while first < end {
+        let middle = first + (end - first) / 2;
+        let row = rows[middle];
+        if is_row_of(row, image, symbol) {
+            return Some(row);
+        }
+        if key_of(row.image, row.symbol) < key {
+            first = middle + 1;
+        } else {
+            end = middle;
+        }
+    }
+    None
+}
+
+fn is_row_of(row: DefAddress, image: usize, symbol: u32) -> bool
+    ensures { result ≡ is_row image symbol row }
+{
+    row.image == image && row.symbol == symbol
 }
 
 fn first_rows(alloc: Global, rows: &[DefAddress]) -> Result<BTreeMap<u128, DefAddress>, AllocError>

@@ -4,6 +4,7 @@ ghost use Rattle.std.specs.Prelude.{◌≡◌, ◌-◌, ◌++◌, IfOk, OnOk, ma
 ghost use Rattle.std.specs.List.{filter_map};
 ghost use Rattle.byte_core.specs.Number.{bytes_at};
 ghost use Rattle.image_place.specs.Applying.{bytes_by, entry_by, HasRange, HaveRanges, IsHome};
+ghost use Rattle.image_place.specs.Grouped.{AreGrouped, HasFields, fields_of};
 ghost use Rattle.image_place.specs.Naming.{address_found};
 ghost use Rattle.image_place.specs.Placed.{given};
 ghost use Rattle.image_place.specs.RangeRows.{definition_seen, one_or_none};
@@ -13,20 +14,22 @@ use crate::leading::Scene;
 use crate::patching::apply;
 use crate::ranges::Definition;
 use crate::rows::PlacedBytes;
-use crate::view::ViewSection;
+use crate::view::{ViewReloc, ViewSection};
 use std::alloc::{AllocError, Global};
 
-/// Appends an entry for each definition of an image, by row.
+/// Appends an entry for each definition of an image, by row. Each has the relocations whose field it holds.
 pub fn append_entries(
     alloc: Global,
     scene: Scene<'_>,
+    fields: &[Vec<ViewReloc>],
     out: &mut Vec<PlacedBytes>,
 ) -> Result<(), AllocError>
-    requires ranges { HaveRanges scene.view.now (map definition_seen scene.definitions.now) }
-    ensures { OnOk result (map placed_view out.new.items ≡ map placed_view out.old.items ++ filter_map (entry_by (address_found scene.entry.exports.now scene.entry.outsides.now) (given scene.entry.addresses.now scene.entry.image) scene.entry.image scene.entry.view.now (map definition_seen scene.entry.definitions.now)) (map definition_seen scene.entry.definitions.now)) }
+    requires ranges { HaveRanges scene.view.now scene.definitions.now }
+    requires grouped { AreGrouped scene.view.now scene.definitions.now (map (λ f. f.items) fields.now) }
+    ensures { OnOk result (map placed_view out.new.items ≡ map placed_view out.old.items ++ filter_map (entry_by (address_found scene.entry.exports.now scene.entry.outsides.now) (given scene.entry.addresses.now scene.entry.image) scene.entry.image scene.entry.view.now scene.entry.definitions.now) scene.entry.definitions.now) }
 {
-    for definition in scene.definitions {
-        append_entry(alloc, scene, *definition, out)?;
+    for (number, definition) in scene.definitions.rows().iter().enumerate() {
+        append_entry(alloc, scene, *definition, &fields[number], out)?;
     }
     Ok(())
 }
@@ -36,13 +39,15 @@ fn append_entry(
     alloc: Global,
     scene: Scene<'_>,
     definition: Definition<'_>,
+    fields: &[ViewReloc],
     out: &mut Vec<PlacedBytes>,
 ) -> Result<(), AllocError>
     requires home { IsHome scene.view.now (definition_seen definition) }
-    ensures { OnOk result (map placed_view out.new.items ≡ map placed_view out.old.items ++ one_or_none (entry_by (address_found scene.entry.exports.now scene.entry.outsides.now) (given scene.entry.addresses.now scene.entry.image) scene.entry.image scene.entry.view.now (map definition_seen scene.entry.definitions.now) (definition_seen definition.entry))) }
+    requires fields { HasFields scene.view.now (definition_seen definition) fields.now }
+    ensures { OnOk result (map placed_view out.new.items ≡ map placed_view out.old.items ++ one_or_none (entry_by (address_found scene.entry.exports.now scene.entry.outsides.now) (given scene.entry.addresses.now scene.entry.image) scene.entry.image scene.entry.view.now scene.entry.definitions.now (definition_seen definition.entry))) }
 {
     let section = &scene.view.sections()[definition.section];
-    let Some(bytes) = placed_bytes(alloc, scene, definition, section)? else {
+    let Some(bytes) = placed_bytes(alloc, scene, definition, section, fields)? else {
         return Ok(());
     };
     out.push(PlacedBytes {
@@ -60,12 +65,14 @@ fn placed_bytes(
     scene: Scene<'_>,
     definition: Definition<'_>,
     section: &ViewSection<'_>,
+    fields: &[ViewReloc],
 ) -> Result<Option<Vec<u8>>, AllocError>
     requires range { HasRange section.now (definition_seen definition) }
-    ensures { IfOk result (λ bytes. option_map (λ v. v.items) bytes ≡ bytes_by (address_found scene.entry.exports.now scene.entry.outsides.now) (given scene.entry.addresses.now scene.entry.image) scene.entry.view.now (map definition_seen scene.entry.definitions.now) (definition_seen definition.entry) section.now) }
+    requires fields { fields.now ≡ fields_of section.now (definition_seen definition) }
+    ensures { IfOk result (λ bytes. option_map (λ v. v.items) bytes ≡ bytes_by (address_found scene.entry.exports.now scene.entry.outsides.now) (given scene.entry.addresses.now scene.entry.image) scene.entry.view.now scene.entry.definitions.now (definition_seen definition.entry) section.now) }
 {
     let mut bytes = contents_of(alloc, section, definition.symbol.address, definition.size)?;
-    for relocation in section.relocations() {
+    for relocation in fields {
         if !apply(scene, definition, section.start(), *relocation, &mut bytes) {
             return Ok(None);
         }

@@ -9,6 +9,7 @@ ghost use Rattle.image_place.specs.Placed.{first_fault, given, holds_field};
 ghost use Rattle.image_place.specs.RangeRows.{definition_seen};
 
 use crate::fault::PlaceFault;
+use crate::holding::{Definitions, is_held, line_place};
 use crate::kind::FixKind;
 use crate::leading::{Led, Scene, led_to};
 use crate::ranges::Definition;
@@ -17,7 +18,7 @@ use crate::view::{ViewReloc, ViewSection};
 
 /// The first refusal of the relocations of an image.
 pub fn view_fault(scene: Scene<'_>) -> Option<PlaceFault>
-    ensures { result ≡ first_fault (view_faults (address_found scene.entry.exports.now scene.entry.outsides.now) (given scene.entry.addresses.now scene.entry.image) scene.entry.image scene.entry.view.now (map definition_seen scene.entry.definitions.now)) }
+    ensures { result ≡ first_fault (view_faults (address_found scene.entry.exports.now scene.entry.outsides.now) (given scene.entry.addresses.now scene.entry.image) scene.entry.image scene.entry.view.now scene.entry.definitions.now) }
 {
     for (k, section) in scene.view.sections().iter().enumerate() {
         if let Some(fault) = section_fault(scene, k, section) {
@@ -29,7 +30,7 @@ pub fn view_fault(scene: Scene<'_>) -> Option<PlaceFault>
 
 // The first refusal of the relocations of a section, which has number `k`.
 fn section_fault(scene: Scene<'_>, k: usize, section: &ViewSection<'_>) -> Option<PlaceFault>
-    ensures { result ≡ first_fault (map (fault_by (address_found scene.entry.exports.now scene.entry.outsides.now) (given scene.entry.addresses.now scene.entry.image) scene.entry.image scene.entry.view.now (map definition_seen scene.entry.definitions.now) k (section.now).start) (section.now).relocations) }
+    ensures { result ≡ first_fault (map (fault_by (address_found scene.entry.exports.now scene.entry.outsides.now) (given scene.entry.addresses.now scene.entry.image) scene.entry.image scene.entry.view.now scene.entry.definitions.now k (section.now).start) (section.now).relocations) }
 {
     for relocation in section.relocations() {
         if let Some(fault) = fault_of(scene, k, section.start(), *relocation) {
@@ -40,7 +41,7 @@ fn section_fault(scene: Scene<'_>, k: usize, section: &ViewSection<'_>) -> Optio
 }
 
 fn fault_of(scene: Scene<'_>, k: usize, start: u64, r: ViewReloc) -> Option<PlaceFault>
-    ensures { result ≡ fault_by (address_found scene.entry.exports.now scene.entry.outsides.now) (given scene.entry.addresses.now scene.entry.image) scene.entry.image scene.entry.view.now (map definition_seen scene.entry.definitions.now) k start r }
+    ensures { result ≡ fault_by (address_found scene.entry.exports.now scene.entry.outsides.now) (given scene.entry.addresses.now scene.entry.image) scene.entry.image scene.entry.view.now scene.entry.definitions.now k start r }
 {
     let image = scene.image;
     let symbol = r.symbol;
@@ -50,7 +51,7 @@ fn fault_of(scene: Scene<'_>, k: usize, start: u64, r: ViewReloc) -> Option<Plac
             number: r.number,
         });
     };
-    if !is_held(scene.definitions, k, start, r, kind) {
+    if !holds_some(scene.definitions, k, start, r, kind) {
         return Some(PlaceFault::NoAddress { image, symbol });
     }
     match led_to(scene, symbol) {
@@ -69,26 +70,22 @@ fn fault_of(scene: Scene<'_>, k: usize, start: u64, r: ViewReloc) -> Option<Plac
 }
 
 // Whether the range of some definition holds the whole field.
-fn is_held(
-    definitions: &[Definition<'_>],
+fn holds_some(
+    definitions: &Definitions<'_>,
     k: usize,
     start: u64,
     r: ViewReloc,
     kind: FixKind,
 ) -> bool
-    ensures { result ≡ list_any (holds_it k start r kind) (map definition_seen definitions.now) }
+    ensures { result ≡ list_any (holds_it k start r kind) definitions.now }
 {
-    for definition in definitions {
-        if holds_field(definition, k, start, r, kind) {
-            return true;
-        }
-    }
-    false
+    let at = u128::from(start) + u128::from(r.offset);
+    is_held(definitions, k, at, width_of(kind) as u64)
 }
 
 // Whether the value doesn't fit in some definition whose range holds the field.
 fn leads_too_far(
-    definitions: &[Definition<'_>],
+    definitions: &Definitions<'_>,
     k: usize,
     start: u64,
     r: ViewReloc,
@@ -96,29 +93,20 @@ fn leads_too_far(
     address: u128,
 ) -> bool
     requires { address < 2 ^ 66 }
-    ensures { result ≡ list_any (λ d. holds_it k start r kind d && is_far start r kind address d) (map definition_seen definitions.now) }
+    ensures { result ≡ list_any (λ d. holds_it k start r kind d && is_far start r kind address d) definitions.now }
 {
-    for definition in definitions {
-        if holds_field(definition, k, start, r, kind)
-            && is_far(definition, start, r, kind, address)
-        {
+    let spans = definitions.spans();
+    let width = width_of(kind) as u64;
+    let at = line_place(k, u128::from(start) + u128::from(r.offset));
+    let mut place = spans.last_holder(at, width);
+    while place > 0 {
+        let definition = definitions.row(spans.number(place));
+        if is_far(&definition, start, r, kind, address) {
             return true;
         }
+        place = spans.holder_before(at, width, place - 1);
     }
     false
-}
-
-// Whether the range of a definition holds the whole field of a relocation of section `k`, which begins at `start`.
-fn holds_field(
-    definition: &Definition<'_>,
-    k: usize,
-    start: u64,
-    r: ViewReloc,
-    kind: FixKind,
-) -> bool
-    ensures { result ≡ holds_it k start r kind (definition_seen definition.now) }
-{
-    definition.section == k && holds_range(definition, start, r, kind)
 }
 
 /// Whether the range of a definition holds the whole field of a relocation of its section, which begins at `start`.

@@ -1,16 +1,15 @@
 //! Where relocations lead.
 
-ghost use Rattle.std.specs.Prelude.{◌≡◌, ◌+◌, ◌<◌, ◌^◌, find, map, option_map, IfSome, Some};
+ghost use Rattle.std.specs.Prelude.{◌≡◌};
 ghost use Rattle.image_place.specs.Leading.{led, led_name};
 ghost use Rattle.image_place.specs.Naming.{address_found};
-ghost use Rattle.image_place.specs.Placed.{given, holds, label_goal, row_goal, symbol_goal};
-ghost use Rattle.image_place.specs.RangeRows.{definition_seen};
+ghost use Rattle.image_place.specs.Placed.{given, row_goal, symbol_goal};
 ghost use Rattle.image_place.specs.ViewRows.{symbol_seen};
 ghost use Rattle.image_place.specs.Leading.{IsNear};
 
 use crate::addresses::Addresses;
+use crate::holding::{Definitions, first_holder};
 use crate::names::address_of;
-use crate::ranges::Definition;
 use crate::view::{View, ViewSymbol};
 use std::collections::HashMap;
 
@@ -32,12 +31,12 @@ pub struct Scene<'s> {
     pub addresses: &'s Addresses<'s>,
     pub image: usize,
     pub view: &'s View<'s>,
-    pub definitions: &'s [Definition<'s>],
+    pub definitions: &'s Definitions<'s>,
 }
 
 /// Where the symbol of a row leads.
 pub fn led_to(scene: Scene<'_>, row: u32) -> Led
-    ensures led { result ≡ led (address_found scene.entry.exports.now scene.entry.outsides.now) (given scene.entry.addresses.now scene.entry.image) (row_goal scene.entry.view.now (map definition_seen scene.entry.definitions.now) row) }
+    ensures led { result ≡ led (address_found scene.entry.exports.now scene.entry.outsides.now) (given scene.entry.addresses.now scene.entry.image) (row_goal scene.entry.view.now scene.entry.definitions.now row) }
     ensures near { IsNear result }
 {
     match scene.view.symbols().get(row as usize) {
@@ -47,7 +46,7 @@ pub fn led_to(scene: Scene<'_>, row: u32) -> Led
 }
 
 fn led_symbol(scene: Scene<'_>, row: u32, symbol: ViewSymbol<'_>) -> Led
-    ensures led { result ≡ led (address_found scene.entry.exports.now scene.entry.outsides.now) (given scene.entry.addresses.now scene.entry.image) (symbol_goal (map definition_seen scene.entry.definitions.now) row (symbol_seen symbol.entry) (symbol_seen symbol.entry).section) }
+    ensures led { result ≡ led (address_found scene.entry.exports.now scene.entry.outsides.now) (given scene.entry.addresses.now scene.entry.image) (symbol_goal scene.entry.definitions.now row (symbol_seen symbol.entry) (symbol_seen symbol.entry).section) }
     ensures near { IsNear result }
 {
     let Some(section) = symbol.section else {
@@ -74,28 +73,4 @@ fn led_name(scene: Scene<'_>, name: &[u8]) -> Led
         Some(address) => Led::At(u128::from(address)),
         None => Led::Unbound,
     }
-}
-
-// The first definition whose range holds the byte at this address of a section.
-fn first_holder<'a>(
-    definitions: &[Definition<'a>],
-    section: usize,
-    at: u64,
-) -> Option<Definition<'a>>
-    ensures { option_map definition_seen result ≡ find (holds section at 1) (map definition_seen definitions.now) }
-{
-    for definition in definitions {
-        if !holds_byte(definition, section, at) {
-            continue;
-        }
-        return Some(*definition);
-    }
-    None
-}
-
-fn holds_byte(definition: &Definition<'_>, section: usize, at: u64) -> bool
-    ensures { result ≡ holds section at 1 (definition_seen definition.now) }
-{
-    let end = u128::from(definition.symbol.address) + u128::from(definition.size);
-    definition.section == section && definition.symbol.address <= at && u128::from(at) < end
 }

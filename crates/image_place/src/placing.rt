@@ -7,7 +7,6 @@ ghost use Rattle.image_place.specs.Applying.{AllHaveRanges, AreWhole, HaveRanges
 ghost use Rattle.image_place.specs.Faults.{TellsFault, definition_faults};
 ghost use Rattle.image_place.specs.Leading.{faults_by, view_faults};
 ghost use Rattle.image_place.specs.Naming.{address_found};
-ghost use Rattle.image_place.specs.RangeRows.{definition_seen};
 ghost use Rattle.image_place.specs.Views.{TellsPlace, extern_view, placed_view};
 ghost use Rattle.image_place.specs.declared.error.PlaceError.TheVariants.{OutOfMemory};
 
@@ -17,6 +16,8 @@ use crate::error::PlaceError;
 use crate::exports::exports_of;
 use crate::fault::{PlaceFault, error_of};
 use crate::filling::append_entries;
+use crate::grouping::fields_of;
+use crate::holding::Definitions;
 use crate::homes::homeless_definition;
 use crate::judging::view_fault;
 use crate::leading::Scene;
@@ -98,7 +99,8 @@ fn place_images<'s>(
 {
     let mut out = Vec::new(alloc);
     for (image, view) in views.iter().enumerate() {
-        let definitions = definitions_in(alloc, addresses, image, view)?;
+        let rows = definitions_in(alloc, addresses, image, view)?;
+        let definitions = Definitions::new(alloc, rows)?;
         let scene = Scene {
             exports: &*exports,
             outsides: &*outsides,
@@ -118,14 +120,15 @@ fn place_image(
     scene: Scene<'_>,
     out: &mut Vec<PlacedBytes>,
 ) -> Result<(), PlaceError>
-    requires ranges { HaveRanges scene.view.now (map definition_seen scene.definitions.now) }
-    ensures none { OnOk result (first_fault (view_faults (address_found scene.entry.exports.now scene.entry.outsides.now) (given scene.entry.addresses.now scene.entry.image) scene.entry.image scene.entry.view.now (map definition_seen scene.entry.definitions.now)) ≡ None) }
-    ensures placed { OnOk result (map placed_view out.new.items ≡ map placed_view out.old.items ++ filter_map (entry_by (address_found scene.entry.exports.now scene.entry.outsides.now) (given scene.entry.addresses.now scene.entry.image) scene.entry.image scene.entry.view.now (map definition_seen scene.entry.definitions.now)) (map definition_seen scene.entry.definitions.now)) }
-    ensures cause { IfErr result (TellsFault (first_fault (view_faults (address_found scene.entry.exports.now scene.entry.outsides.now) (given scene.entry.addresses.now scene.entry.image) scene.entry.image scene.entry.view.now (map definition_seen scene.entry.definitions.now)))) }
+    requires ranges { HaveRanges scene.view.now scene.definitions.now }
+    ensures none { OnOk result (first_fault (view_faults (address_found scene.entry.exports.now scene.entry.outsides.now) (given scene.entry.addresses.now scene.entry.image) scene.entry.image scene.entry.view.now scene.entry.definitions.now) ≡ None) }
+    ensures placed { OnOk result (map placed_view out.new.items ≡ map placed_view out.old.items ++ filter_map (entry_by (address_found scene.entry.exports.now scene.entry.outsides.now) (given scene.entry.addresses.now scene.entry.image) scene.entry.image scene.entry.view.now scene.entry.definitions.now) scene.entry.definitions.now) }
+    ensures cause { IfErr result (TellsFault (first_fault (view_faults (address_found scene.entry.exports.now scene.entry.outsides.now) (given scene.entry.addresses.now scene.entry.image) scene.entry.image scene.entry.view.now scene.entry.definitions.now))) }
 {
     if let Some(fault) = view_fault(scene) {
         return Err(error_of(fault));
     }
-    append_entries(alloc, scene, out)?;
+    let fields = fields_of(alloc, scene.view, scene.definitions)?;
+    append_entries(alloc, scene, &fields, out)?;
     Ok(())
 }

@@ -1,20 +1,23 @@
 -- What each end of a run says of its input.
-use Rattle.std.proofs.Common.{◌≡◌, ℕ, ◌⊎◌, true, List, Option, Some, None, IfSome, string_bytes, refl, ap, sym, ◌∙◌, arith}
+use Rattle.std.proofs.Common.{◌≡◌, ℕ, ◌<◌, ◌≤◌, ◌⊎◌, List, length, Option, Some, None, IfSome, String, Global, string_bytes, refl, ap, sym, ◌∙◌, arith}
 use Rattle.serde_json.specs.Data.{Data}
+use Rattle.byte_core.specs.Outside.{Outside}
 use Rattle.image_build.specs.Built.{BuildPart, BuildRefusal, build_cause}
-use Rattle.image_build.specs.Parts.{built_so_far}
 use Rattle.objtool_run.specs.Fault.{code_of}
-use Rattle.objtool_run.specs.Script.{HasJson, HasNoParts, HasOtherParts, StandsFor}
+use Rattle.objtool_run.specs.Script.{HasJson, HasNoParts, StandsFor}
 use Rattle.image_read.specs.Image.{HasNoImage}
 use Rattle.objtool_run.specs.Reading.{IsImage, IsImageLine, IsUnreadImage, JudgesRead}
-use Rattle.objtool_run.specs.Run.{IsOutput, IsLong, Explains, Judges, JudgesBuild, IsAnswerable, IsJudged}
-use Rattle.objtool_run.specs.declared.words.Request.{Request}
-use Rattle.objtool_run.specs.declared.words.Request.TheVariants.{Build, Raw, Read, Names, Ask}
+use Rattle.objtool_run.specs.Run.{input_limit, IsOutput, IsLong, Explains, Judges, JudgesBuild, IsAnswerable, IsGiven, IsJudged, IsValid}
+use Rattle.objtool_run.specs.Asked.{Asked, build, raw, read, names, ask, place, extract, join, gen}
+use Rattle.objtool_run.proofs.JudgingFiles.{judges_placed, judges_unplaced, judges_unread_place, judges_extracted, judges_unextracted, judges_joined, judges_unjoined, joinable_ends}
+use Rattle.objtool_run.specs.Placing.{IsPlacedInput, IsUnplacedInput, HasNoPlacement, JudgesPlace, IsPlaceable}
+use Rattle.objtool_run.specs.Extracted.{IsUnextracted, JudgesExtract, IsExtractable}
+use Rattle.fat_commands.specs.Extracting.{IsExtracted}
 use Rattle.objtool_run.specs.declared.words.Query.{Query}
 use Rattle.json_form.specs.Reply.{Reply, told, refusal}
-use Rattle.objtool_run.specs.Query.{reply_of, IsTold, IsRefusedQuery, IsUnreadQuery, JudgesQuery, IsToldLine, IsRefusalLine}
+use Rattle.objtool_run.specs.Query.{reply_of, IsTold, IsRefusedQuery, IsUnreadQuery, IsAnswered, JudgesQuery, IsToldLine, IsRefusalLine}
 use Rattle.objtool_run.specs.declared.fault.Fault.{Fault}
-use Rattle.objtool_run.specs.declared.fault.Fault.TheVariants.{Refused, BadWords, ReadFailed, WriteFailed, OutOfMemory, NotUnderstood, TooLong, NotYet}
+use Rattle.objtool_run.specs.declared.fault.Fault.TheVariants.{Refused, BadWords, ReadFailed, WriteFailed, OutOfMemory, NotUnderstood, TooLong}
 
 -- some bytes have one JSON value at most
 one_value : (b : List ℕ) (d e : Data) → HasJson b d → HasJson b e → d ≡ e
@@ -24,43 +27,28 @@ one_value b d e h k = let p = h.value in let q = k.value in cc
 one_list : (b : List ℕ) (xs ys : List BuildPart) → StandsFor b xs → StandsFor b ys → xs ≡ ys
 one_list b xs ys (d, h, p) (e, k, q) = let same = one_value b d e h k in cc
 
--- parts that are built so far are no others
-not_other : (b : List ℕ) (xs : List BuildPart) → StandsFor b xs → built_so_far xs ≡ true → HasOtherParts b → ⊥
-not_other b xs s t (ys, k, f) = let same = one_list b xs ys s k in absurd (cc)
-
 not_unread : (b : List ℕ) (xs : List BuildPart) → StandsFor b xs → HasNoParts b → ⊥
 not_unread b xs (d, h, p) none = let z : Some xs ≡ None = sym p ∙ none d h in absurd (cc)
 
-judges_valid : (input : List ℕ) (parts : List BuildPart) (status : ℕ) → StandsFor input parts → built_so_far parts ≡ true → build_cause parts ≡ None → (status ≡ 0) ⊎ (status ≡ 4) → JudgesBuild input status
-judges_valid input parts status stands built valid ends = record {
+judges_valid : (input : List ℕ) (parts : List BuildPart) (status : ℕ) → StandsFor input parts → build_cause parts ≡ None → (status ≡ 0) ⊎ (status ≡ 4) → JudgesBuild input status
+judges_valid input parts status stands valid ends = record {
   unread = λ h. absurd (not_unread input parts stands h);
-  other = λ h. absurd (not_other input parts stands built h);
-  refused = λ others r also so_far cause. let same = one_list input parts others stands also in absurd (cc);
-  valid = λ others also so_far none. ends;
+  refused = λ others r also cause. let same = one_list input parts others stands also in absurd (cc);
+  valid = λ others also none. ends;
 }
 
-judges_refused : (input : List ℕ) (parts : List BuildPart) (r : BuildRefusal) → StandsFor input parts → built_so_far parts ≡ true → build_cause parts ≡ Some r → JudgesBuild input 1
-judges_refused input parts r stands built refused = record {
+judges_refused : (input : List ℕ) (parts : List BuildPart) (r : BuildRefusal) → StandsFor input parts → build_cause parts ≡ Some r → JudgesBuild input 1
+judges_refused input parts r stands refused = record {
   unread = λ h. absurd (not_unread input parts stands h);
-  other = λ h. absurd (not_other input parts stands built h);
-  refused = λ others s also so_far cause. refl;
-  valid = λ others also so_far none. let same = one_list input parts others stands also in absurd (cc);
+  refused = λ others s also cause. refl;
+  valid = λ others also none. let same = one_list input parts others stands also in absurd (cc);
 }
 
 judges_unread : (input : List ℕ) → HasNoParts input → JudgesBuild input 6
 judges_unread input none = record {
   unread = λ h. refl;
-  other = λ h. absurd (not_unread input h.0 h.1 none);
-  refused = λ parts r stands so_far cause. absurd (not_unread input parts stands none);
-  valid = λ parts stands so_far cause. absurd (not_unread input parts stands none);
-}
-
-judges_other : (input : List ℕ) → HasOtherParts input → JudgesBuild input 8
-judges_other input other = record {
-  unread = λ none. absurd (not_unread input other.0 other.1 none);
-  other = λ h. refl;
-  refused = λ parts r stands so_far cause. absurd (not_other input parts stands so_far other);
-  valid = λ parts stands so_far cause. absurd (not_other input parts stands so_far other);
+  refused = λ parts r stands cause. absurd (not_unread input parts stands none);
+  valid = λ parts stands cause. absurd (not_unread input parts stands none);
 }
 
 -- -- queries
@@ -112,78 +100,82 @@ if_known P Q f None h = tt
 if_known P Q f (Some x) h = f x h
 
 -- a request that has an output is judged by its writing
-pub judges_output : (r : Request) (input : Option (List ℕ)) (text : List ℕ) (status : ℕ) → IsOutput r input text → (status ≡ 0) ⊎ (status ≡ 4) → Judges r input status
-judges_output (Names machine number) input text status h ends = ends
-judges_output (Ask q) input text status h ends =
-    if_known (λ known. IsTold q known text) (λ known. JudgesQuery q known status) (λ known a. let is = told_is text (reply_of q a.value) a.line_is in judges_told q known a.value is.0 status a.json is.1 ends) input h
-judges_output Build input text status h ends = if_known _ (λ known. JudgesBuild known status) (λ known a. judges_valid known a.parts status a.stands a.so_far a.valid ends) input h
-judges_output Raw input text status h ends = if_known _ (λ known. JudgesBuild known status) (λ known a. judges_valid known a.parts status a.stands a.so_far a.valid ends) input h
-judges_output Read input text status h ends = if_known (λ known. IsImageLine known text) (λ known. JudgesRead known status) (λ known a. judges_image known status (record { image = a.image; reads = a.reads }) ends) input h
+pub judges_output : (r : Asked) (old : Outside) (text : List ℕ) (status : ℕ) → IsOutput r old text → (status ≡ 0) ⊎ (status ≡ 4) → Judges r old status
+judges_output (names machine number) old text status h ends = ends
+judges_output (gen seed count) old text status h ends = ends
+judges_output (ask q) old text status h ends =
+    if_known (λ known. IsTold q known text) (λ known. JudgesQuery q known status) (λ known a. let is = told_is text (reply_of q a.value) a.line_is in judges_told q known a.value is.0 status a.json is.1 ends) old.input h
+judges_output build old text status h ends = if_known _ (λ known. JudgesBuild known status) (λ known a. judges_valid known a.parts status a.stands a.valid ends) old.input h
+judges_output raw old text status h ends = if_known _ (λ known. JudgesBuild known status) (λ known a. judges_valid known a.parts status a.stands a.valid ends) old.input h
+judges_output read old text status h ends = if_known (λ known. IsImageLine known text) (λ known. JudgesRead known status) (λ known a. judges_image known status (record { image = a.image; reads = a.reads }) ends) old.input h
+judges_output place old text status h ends = if_known (λ known. IsPlacedInput known text) (λ known. JudgesPlace known status) (λ known a. judges_placed known text status a ends) old.input h
+judges_output (extract name) old text status h ends = if_known (λ known. IsExtracted known name text) (λ known. JudgesExtract name known status) (λ known a. judges_extracted name known text status a ends) old.input h
+judges_output (join paths) old text status h ends = judges_joined old.files paths text status h ends
+
+-- a fault that comes of what a whole input says is a refusal, or says that there is no reading
+judged_cases : (P : Fault → Type 0) (fault : Fault) → IsJudged fault → ((text : String Global) → P (Refused text)) → P NotUnderstood → P fault
+judged_cases P (Refused text) j refused unread = refused text
+judged_cases P BadWords j refused unread = absurd j
+judged_cases P ReadFailed j refused unread = absurd j
+judged_cases P WriteFailed j refused unread = absurd j
+judged_cases P OutOfMemory j refused unread = absurd j
+judged_cases P NotUnderstood j refused unread = unread
+judged_cases P TooLong j refused unread = absurd j
+
+refused_ends : (r : Asked) (old : Outside) (text : String Global) → Explains r old (Refused text) → Judges r old 1
+refused_ends (ask q) old text h =
+    if_known (λ known. IsRefusedQuery q known (string_bytes text)) (λ known. JudgesQuery q known 1) (λ known a. let is = refusal_is (string_bytes text) (reply_of q a.value) a.line_is in judges_refusal q known a.value is.0 a.json is.1) old.input h
+refused_ends (names machine number) old text h = absurd h
+refused_ends (gen seed count) old text h = absurd h
+refused_ends build old text h = if_known _ (λ known. JudgesBuild known 1) (λ known a. judges_refused known a.parts a.refusal.refusal a.stands a.refusal.refused) old.input h
+refused_ends raw old text h = if_known _ (λ known. JudgesBuild known 1) (λ known a. judges_refused known a.parts a.refusal.refusal a.stands a.refusal.refused) old.input h
+refused_ends read old text h = if_known (λ known. IsUnreadImage known (string_bytes text)) (λ known. JudgesRead known 1) (λ known a. judges_no_image known a.no_image) old.input h.1
+refused_ends place old text h = if_known (λ known. IsUnplacedInput known (string_bytes text)) (λ known. JudgesPlace known 1) (λ known a. judges_unplaced known (string_bytes text) a) old.input h
+refused_ends (extract name) old text h = if_known (λ known. IsUnextracted known name (string_bytes text)) (λ known. JudgesExtract name known 1) (λ known a. judges_unextracted name known (string_bytes text) a) old.input h.1
+refused_ends (join paths) old text h = judges_unjoined old.files paths (string_bytes text) h
+
+unread_ends : (r : Asked) (old : Outside) → Explains r old NotUnderstood → Judges r old 6
+unread_ends (ask q) old h = if_known (λ known. IsUnreadQuery q known) (λ known. JudgesQuery q known 6) (λ known none. judges_unread_query q known none) old.input h
+unread_ends (names machine number) old h = absurd h
+unread_ends (gen seed count) old h = absurd h
+unread_ends build old h = if_known HasNoParts (λ known. JudgesBuild known 6) judges_unread old.input h
+unread_ends raw old h = if_known HasNoParts (λ known. JudgesBuild known 6) judges_unread old.input h
+unread_ends read old h = absurd h.0
+unread_ends place old h = if_known HasNoPlacement (λ known. JudgesPlace known 6) judges_unread_place old.input h
+unread_ends (extract name) old h = absurd h.0
+unread_ends (join paths) old h = absurd h
 
 -- a request with a fault that its input has
-pub judges_fault : (r : Request) (input : Option (List ℕ)) (fault : Fault) → IsJudged fault → Explains r input fault → Judges r input (code_of fault)
-judges_fault (Ask q) input (Refused text) j h =
-    if_known (λ known. IsRefusedQuery q known (string_bytes text)) (λ known. JudgesQuery q known 1) (λ known a. let is = refusal_is (string_bytes text) (reply_of q a.value) a.line_is in judges_refusal q known a.value is.0 a.json is.1) input h
-judges_fault (Ask q) input BadWords j h = absurd j
-judges_fault (Ask q) input ReadFailed j h = absurd j
-judges_fault (Ask q) input WriteFailed j h = absurd j
-judges_fault (Ask q) input OutOfMemory j h = absurd j
-judges_fault (Ask q) input NotUnderstood j h = if_known (λ known. IsUnreadQuery q known) (λ known. JudgesQuery q known 6) (λ known none. judges_unread_query q known none) input h
-judges_fault (Ask q) input TooLong j h = absurd j
-judges_fault (Ask q) None NotYet j h = tt
-judges_fault (Ask q) (Some known) NotYet j h = absurd h
-judges_fault (Names machine number) input (Refused text) j h = absurd h
-judges_fault (Names machine number) input BadWords j h = absurd j
-judges_fault (Names machine number) input ReadFailed j h = absurd j
-judges_fault (Names machine number) input WriteFailed j h = absurd j
-judges_fault (Names machine number) input OutOfMemory j h = absurd j
-judges_fault (Names machine number) input NotUnderstood j h = absurd h
-judges_fault (Names machine number) input TooLong j h = absurd j
-judges_fault (Names machine number) input NotYet j h = absurd h
-judges_fault Build input (Refused text) j h = if_known _ (λ known. JudgesBuild known 1) (λ known a. judges_refused known a.parts a.refusal.refusal a.stands a.so_far a.refusal.refused) input h
-judges_fault Build input BadWords j h = absurd j
-judges_fault Build input ReadFailed j h = absurd j
-judges_fault Build input WriteFailed j h = absurd j
-judges_fault Build input OutOfMemory j h = absurd j
-judges_fault Build input NotUnderstood j h = if_known HasNoParts (λ known. JudgesBuild known 6) judges_unread input h
-judges_fault Build input TooLong j h = absurd j
-judges_fault Build input NotYet j h = if_known HasOtherParts (λ known. JudgesBuild known 8) judges_other input h
-judges_fault Raw input (Refused text) j h = if_known _ (λ known. JudgesBuild known 1) (λ known a. judges_refused known a.parts a.refusal.refusal a.stands a.so_far a.refusal.refused) input h
-judges_fault Raw input BadWords j h = absurd j
-judges_fault Raw input ReadFailed j h = absurd j
-judges_fault Raw input WriteFailed j h = absurd j
-judges_fault Raw input OutOfMemory j h = absurd j
-judges_fault Raw input NotUnderstood j h = if_known HasNoParts (λ known. JudgesBuild known 6) judges_unread input h
-judges_fault Raw input TooLong j h = absurd j
-judges_fault Raw input NotYet j h = if_known HasOtherParts (λ known. JudgesBuild known 8) judges_other input h
-judges_fault Read input (Refused text) j h = if_known (λ known. IsUnreadImage known (string_bytes text)) (λ known. JudgesRead known 1) (λ known a. judges_no_image known a.no_image) input h.1
-judges_fault Read input BadWords j h = absurd j
-judges_fault Read input ReadFailed j h = absurd j
-judges_fault Read input WriteFailed j h = absurd j
-judges_fault Read input OutOfMemory j h = absurd j
-judges_fault Read input NotUnderstood j h = absurd h.0
-judges_fault Read input TooLong j h = absurd j
-judges_fault Read input NotYet j h = absurd h.0
+pub judges_fault : (r : Asked) (old : Outside) (fault : Fault) → IsJudged fault → Explains r old fault → Judges r old (code_of fault)
+judges_fault r old fault j h = judged_cases (λ f. Explains r old f → Judges r old (code_of f)) fault j (λ text e. refused_ends r old text e) (λ e. unread_ends r old e) h
+
+given_ends : (P Q : List ℕ → Type 0) (R : Type 0) → ((input : List ℕ) → P input → Q input → R) → (o : Option (List ℕ)) → IsGiven P o → IfSome o Q → R
+given_ends P Q R f None v j = absurd v
+given_ends P Q R f (Some input) v j = f input v.0 j
 
 -- what nothing refuses is done or fails at its writing
-pub valid_ends : (r : Request) (input : Option (List ℕ)) (status : ℕ) → IsAnswerable r input → Judges r input status → (status ≡ 0) ⊎ (status ≡ 4)
-valid_ends (Names machine number) input status v j = j
-valid_ends (Ask q) None status v j = absurd v
-valid_ends (Ask q) (Some input) status v j = j.told v.0.value v.0.text v.0.json v.0.reply
-valid_ends Build None status v j = absurd v
-valid_ends Build (Some input) status v j = j.valid v.0.parts v.0.stands v.0.so_far v.0.valid
-valid_ends Raw None status v j = absurd v
-valid_ends Raw (Some input) status v j = j.valid v.0.parts v.0.stands v.0.so_far v.0.valid
-valid_ends Read None status v j = absurd v
-valid_ends Read (Some input) status v j = j.read v.0
+pub valid_ends : (r : Asked) (old : Outside) (status : ℕ) → IsAnswerable r old → Judges r old status → (status ≡ 0) ⊎ (status ≡ 4)
+valid_ends (names machine number) old status v j = j
+valid_ends (gen seed count) old status v j = j
+valid_ends (ask q) old status v j = given_ends (IsAnswered q) (λ known. JudgesQuery q known status) _ (λ input a k. k.told a.value a.text a.json a.reply) old.input v j
+valid_ends build old status v j = given_ends IsValid (λ known. JudgesBuild known status) _ (λ input a k. k.valid a.parts a.stands a.valid) old.input v j
+valid_ends raw old status v j = given_ends IsValid (λ known. JudgesBuild known status) _ (λ input a k. k.valid a.parts a.stands a.valid) old.input v j
+valid_ends read old status v j = given_ends IsImage (λ known. JudgesRead known status) _ (λ input a k. k.read a) old.input v j
+valid_ends place old status v j = given_ends IsPlaceable (λ known. JudgesPlace known status) _ (λ input a k. k.placed a.value a.text a.json a.placed) old.input v j
+valid_ends (extract name) old status v j = given_ends (IsExtractable name) (λ known. JudgesExtract name known status) _ (λ input a k. k.found a.0 a.1) old.input v j
+valid_ends (join paths) old status v j = joinable_ends paths old.files status v j
 
-pub not_long : (r : Request) (input : Option (List ℕ)) → IsAnswerable r input → IsLong r input → ⊥
-not_long (Names machine number) input v h = h
-not_long (Ask q) None v h = v
-not_long (Ask q) (Some input) v h = let low = v.1 in omega (arith, h)
-not_long Build None v h = v
-not_long Build (Some input) v h = let low = v.1 in omega (arith, h)
-not_long Raw None v h = v
-not_long Raw (Some input) v h = let low = v.1 in omega (arith, h)
-not_long Read None v h = v
-not_long Read (Some input) v h = let low = v.1 in omega (arith, h)
+given_short : (P : List ℕ → Type 0) (o : Option (List ℕ)) → IsGiven P o → IfSome o (λ known. input_limit < length known) → ⊥
+given_short P None v h = v
+given_short P (Some input) v h = let low = v.1 in omega (arith, h, low)
+
+pub not_long : (r : Asked) (old : Outside) → IsAnswerable r old → IsLong r old → ⊥
+not_long (names machine number) old v h = h
+not_long (gen seed count) old v h = h
+not_long (join paths) old v h = h
+not_long (ask q) old v h = given_short (IsAnswered q) old.input v h
+not_long build old v h = given_short IsValid old.input v h
+not_long raw old v h = given_short IsValid old.input v h
+not_long read old v h = given_short IsImage old.input v h
+not_long place old v h = given_short IsPlaceable old.input v h
+not_long (extract name) old v h = given_short (IsExtractable name) old.input v h

@@ -1,6 +1,10 @@
 pub mod Taking
 pub mod NoFloat
 pub mod NumberWords
+pub mod CommandWords
+pub mod Alone
+pub mod Refusing
+pub mod JudgingFiles
 pub mod Judging
 pub mod Endings
 pub mod Appending

@@ -1,3 +1,4 @@
+pub mod Asked
 pub mod Words
 pub mod Fault
 pub mod SignatureForm
@@ -7,5 +8,9 @@ pub mod DefinitionForm
 pub mod Script
 pub mod Query
 pub mod Reading
+pub mod Placing
+pub mod Extracted
+pub mod Joined
+pub mod Generated
 pub mod Run
 pub mod Ends

@@ -14,7 +14,7 @@ use Rattle.pe_json.specs.Tls.{tls_reply}
 use Rattle.objtool_run.specs.Fault.{line}
 use Rattle.objtool_run.specs.Script.{HasJson}
 use Rattle.objtool_run.specs.declared.fault.Fault.{Fault}
-use Rattle.objtool_run.specs.declared.fault.Fault.TheVariants.{Refused, BadWords, ReadFailed, WriteFailed, OutOfMemory, NotUnderstood, TooLong, NotYet}
+use Rattle.objtool_run.specs.declared.fault.Fault.TheVariants.{Refused, BadWords, ReadFailed, WriteFailed, OutOfMemory, NotUnderstood, TooLong}
 use Rattle.objtool_run.specs.declared.words.Query.{Query}
 use Rattle.objtool_run.specs.declared.words.Query.TheVariants.{Declarations, Signed, Clr, LoadConfig, Tls}
 
@@ -52,7 +52,6 @@ FaultTells WriteFailed reply = ⊥
 FaultTells OutOfMemory reply = Unit {0}
 FaultTells NotUnderstood reply = reply ≡ None
 FaultTells TooLong reply = ⊥
-FaultTells NotYet reply = ⊥
 
 -- -- over the bytes of an input
 
@@ -81,7 +80,6 @@ ExplainsQuery query input WriteFailed = Unit {0}
 ExplainsQuery query input OutOfMemory = Unit {0}
 ExplainsQuery query input NotUnderstood = IsUnreadQuery query input
 ExplainsQuery query input TooLong = Unit {0}
-ExplainsQuery query input NotYet = ⊥
 
 -- how a query over an input may end, apart from failed reads, want of memory and the limit of its length
 pub record JudgesQuery (query : Query) (input : List ℕ) (status : ℕ) : Type 0 where

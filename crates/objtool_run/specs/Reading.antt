@@ -5,7 +5,7 @@ use Rattle.image_read.specs.declared.image.Image.{Image}
 use Rattle.image_json.specs.ImageJson.{image_text}
 use Rattle.objtool_run.specs.Fault.{line}
 use Rattle.objtool_run.specs.declared.fault.Fault.{Fault}
-use Rattle.objtool_run.specs.declared.fault.Fault.TheVariants.{Refused, BadWords, ReadFailed, WriteFailed, OutOfMemory, NotUnderstood, TooLong, NotYet}
+use Rattle.objtool_run.specs.declared.fault.Fault.TheVariants.{Refused, BadWords, ReadFailed, WriteFailed, OutOfMemory, NotUnderstood, TooLong}
 
 -- the bytes are read as an image
 pub record IsImage (input : List ℕ) : Type 0 where
@@ -36,7 +36,6 @@ ExplainsRead input WriteFailed = Unit {0}
 ExplainsRead input OutOfMemory = Unit {0}
 ExplainsRead input NotUnderstood = ⊥
 ExplainsRead input TooLong = Unit {0}
-ExplainsRead input NotYet = ⊥
 
 -- the faults of a request whose input is no JSON
 abbrev pub IsFileFault : Fault → Type 0
@@ -47,7 +46,6 @@ IsFileFault WriteFailed = Unit {0}
 IsFileFault OutOfMemory = Unit {0}
 IsFileFault NotUnderstood = ⊥
 IsFileFault TooLong = Unit {0}
-IsFileFault NotYet = ⊥
 
 -- how reading an input may end, apart from failed reads, want of memory and the limit of its length
 pub record JudgesRead (input : List ℕ) (status : ℕ) : Type 0 where

@@ -11,7 +11,6 @@ use Rattle.cranelift_module.specs.declared.linkage.Linkage.TheVariants.{Import, 
 use Rattle.cranelift_module.specs.Call.{Call, declare_function, declare_anonymous_function, declare_data, declare_anonymous_data}
 use Rattle.cranelift_object.specs.Settings.{Settings}
 use Rattle.image_build.specs.Built.{BuildPart, commands, image}
-use Rattle.image_build.specs.Parts.{built_so_far}
 use Rattle.objtool_run.specs.TargetForm.{libcalls_at, part_target}
 use Rattle.objtool_run.specs.SignatureForm.{signature_at}
 use Rattle.objtool_run.specs.DefinitionForm.{define_of, define_data_of}
@@ -136,7 +135,3 @@ HasNoParts input = (d : Data) → HasJson input d → parts_of d ≡ None
 -- the input stands for these parts
 abbrev pub StandsFor : List ℕ → List BuildPart → Type 0
 StandsFor input parts = (d : Data) × HasJson input d × (parts_of d ≡ Some parts)
-
--- the input stands for parts that aren't built so far
-abbrev pub HasOtherParts : List ℕ → Type 0
-HasOtherParts input = (parts : List BuildPart) × StandsFor input parts × (built_so_far parts ≡ false)

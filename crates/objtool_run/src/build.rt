@@ -1,16 +1,16 @@
 //! The command `build`: from the bytes of an input to the file of its parts, and to its line.
 
-ghost use Rattle.std.specs.Prelude.{◌≡◌, ◌<◌, true, map, None, string_bytes, IfOk, IfErr, OnOk};
+ghost use Rattle.std.specs.Prelude.{◌≡◌, ◌<◌, map, None, string_bytes, IfOk, IfErr, OnOk};
 ghost use Rattle.std.specs.List.{All};
 ghost use Rattle.image_build.specs.Built.{Built, build_cause};
-ghost use Rattle.image_build.specs.Parts.{part_view, built_so_far, HasFewCalls};
+ghost use Rattle.image_build.specs.Parts.{part_view, HasFewCalls};
 ghost use Rattle.image_build.specs.Texts.{build_text};
 ghost use Rattle.objtool_run.specs.Fault.{line};
 ghost use Rattle.objtool_run.specs.Run.{IsAnswer, IsFile, ExplainsBuild, ExplainsParts, IsOfInput, TellsRefusal, line_of};
 
 use crate::fault::Fault;
 use crate::script::part::read_parts;
-use image_build::{BuildCause, BuildError, Part, build_image, built_so_far};
+use image_build::{BuildCause, BuildError, Part, build_image};
 use std::alloc::{AllocError, Global};
 
 /// The output for some bytes: their lower-case hexadecimal and a newline.
@@ -42,9 +42,8 @@ fn refused(alloc: Global, error: &BuildError) -> Fault
     }
 }
 
-/// The file of parts that are built so far.
+/// The file of parts.
 fn file_of(alloc: Global, parts: &[Part]) -> Result<Vec<u8>, Fault>
-    requires built { built_so_far (map part_view parts.now) ≡ true }
     requires few { All HasFewCalls (map part_view parts.now) }
     ensures built { IfOk result (λ bytes. Built (map part_view parts.now) bytes.items) }
     ensures valid { OnOk result (build_cause (map part_view parts.now) ≡ None) }
@@ -69,9 +68,6 @@ pub fn built_file(alloc: Global, input: &[u8]) -> Result<Vec<u8>, Fault>
         Ok(parts) => parts,
         Err(fault) => return Err(fault),
     };
-    if !built_so_far(&parts) {
-        return Err(Fault::NotYet);
-    }
     match file_of(alloc, &parts) {
         Ok(bytes) => Ok(bytes),
         Err(fault) => Err(fault),

@@ -24,14 +24,12 @@ pub enum Fault {
     NotUnderstood,
     /// The input has more bytes than the limit. Status 7.
     TooLong,
-    /// The input asks for what isn't built yet. Status 8.
-    NotYet,
 }
 
 impl Fault {
     ghost use Rattle.objtool_run.specs.Fault.{code_of, text_of};
 
-    /// The exit status, 1 to 8.
+    /// The exit status, 1 to 7.
     pub fn code(&self) -> u8
         ensures { result ≡ code_of self.now }
     {
@@ -43,7 +41,6 @@ impl Fault {
             Fault::OutOfMemory => 5,
             Fault::NotUnderstood => 6,
             Fault::TooLong => 7,
-            Fault::NotYet => 8,
         }
     }
 
@@ -59,7 +56,6 @@ impl Fault {
             Fault::OutOfMemory => b"out of memory\n",
             Fault::NotUnderstood => b"input not understood\n",
             Fault::TooLong => b"input too long\n",
-            Fault::NotYet => b"not yet\n",
         }
     }
 }

@@ -5,10 +5,13 @@
 #![tactic(auto)]
 
 mod build;
+mod fat;
 mod fault;
+mod generated;
 mod input;
 mod names;
 mod output;
+mod place;
 mod program;
 mod query;
 mod reading;

@@ -251,30 +251,6 @@ fn bad_inputs_have_their_status(rt: HostRuntime) -> Result<(), Fail> {
 }
 
 #[test]
-fn parts_that_are_not_built_so_far_have_a_status_of_their_own(rt: HostRuntime) -> Result<(), Fail> {
-    let alloc = rt.alloc();
-    let cases = [
-        "[]",
-        "[{\"image\":\"\"}]",
-        "[{\"image\":\"cafebabe00000000\"}]",
-        "[{\"name\":\"a.o\",\"arch\":\"x86_64\",\"format\":\"elf\",\"commands\":[]},{\"name\":\"b.o\",\"arch\":\"x86_64\",\"format\":\"elf\",\"commands\":[]}]",
-        "[{\"name\":\"a.o\",\"arch\":\"x86_64\",\"format\":\"elf\",\"commands\":[]},{\"image\":\"00\"}]",
-    ];
-    for line in [
-        words(alloc, &["build"])?,
-        words(alloc, &["build", "--raw"])?,
-    ] {
-        for text in cases {
-            let mut host = MemHost::new(alloc, text.as_bytes(), &[], NONE, 2000)?;
-            assert_eq!(rt; run(alloc, &line, &mut host), 8, "{text}");
-            assert_eq!(rt; host.output().len(), 0, "{text}");
-            assert!(rt; host.errors() == b"not yet\n".as_slice(), "{text}");
-        }
-    }
-    Ok(())
-}
-
-#[test]
 fn an_input_past_the_limit_is_too_long(rt: HostRuntime) -> Result<(), Fail> {
     let alloc = rt.alloc();
     let build = words(alloc, &["build"])?;

@@ -4,6 +4,8 @@
 #[cfg(test)]
 mod build_tests;
 #[cfg(test)]
+mod command_tests;
+#[cfg(test)]
 mod data_files;
 #[cfg(test)]
 mod declaration_tests;
@@ -13,6 +15,8 @@ mod definition_tests;
 mod files;
 #[cfg(test)]
 mod limit_tests;
+#[cfg(test)]
+mod list_tests;
 #[cfg(test)]
 mod mach_build_tests;
 #[cfg(test)]

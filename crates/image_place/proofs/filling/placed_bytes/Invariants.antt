@@ -10,9 +10,9 @@ abbrev pub invariant-loop-relocation : goal.invariant-loop-relocation
 invariant-loop-relocation l =
     let F = address_found l.scene.exports.now l.scene.outsides.now in
     let at = given l.scene.addresses.now l.scene.image in
-    let ds = map definition_seen l.scene.definitions.now in
+    let ds = l.scene.definitions.now in
     let d = definition_seen l.definition in
     record {
-      rest : bytes_by F at l.scene.view.now ds d l.section ≡ fixed l.bytes.items d.address (held_by F at l.scene.view.now ds d l.section.start (drop l.relocation-index l.section.relocations));
+      rest : bytes_by F at l.scene.view.now ds d l.section ≡ fixed l.bytes.items d.address (held_by F at l.scene.view.now ds d l.section.start (drop l.relocation-index l.fields));
       long : l.definition.size ≤ length l.bytes.items;
     }

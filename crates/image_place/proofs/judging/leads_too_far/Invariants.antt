@@ -1,11 +1,13 @@
-use Rattle.std.proofs.Common.{◌≡◌, map, drop}
-use Rattle.std.specs.Prelude.{◌&&◌}
-use Rattle.std.specs.List.{list_any}
-use Rattle.image_place.specs.Leading.{holds_it, is_far}
-use Rattle.image_place.specs.RangeRows.{definition_seen}
+use Rattle.std.proofs.Common.{◌≡◌, ◌+◌, ℕ}
+use Rattle.image_place.specs.Fixups.{fix_width}
+use Rattle.image_place.specs.Holders.{IsDone}
+use Rattle.image_place.specs.Indexed.{line_place}
+use Rattle.image_place.proofs.JudgingLaws.{FitsIn}
 use Rattle.image_place.proofs.judging.leads_too_far.Given as goal
 
-abbrev pub invariant-loop-definition : goal.invariant-loop-definition
-invariant-loop-definition l =
-    list_any (λ d. holds_it l.k l.start l.r l.kind d && is_far l.start l.r l.kind l.address d) (map definition_seen l.definitions)
-    ≡ list_any (λ d. holds_it l.k l.start l.r l.kind d && is_far l.start l.r l.kind l.address d) (map definition_seen (drop l.definition-index l.definitions))
+abbrev pub invariant-loop-place : goal.invariant-loop-place
+invariant-loop-place l =
+    IsDone l.spans (line_place l.k (l.start + l.r.offset)) (fix_width l.kind) l.place (FitsIn l.definitions l.start l.r l.kind l.address)
+
+abbrev pub decreases-loop-place : goal.decreases-loop-place
+decreases-loop-place l = l.place

@@ -11,7 +11,7 @@ pub returns-in-Some : goal.returns-in-Some
 returns-in-Some c =
     let F = address_found c.args.scene.exports.now c.args.scene.outsides.now in
     let at = given c.args.scene.addresses.now c.args.scene.image in
-    let ds = map definition_seen c.args.scene.definitions.now in
+    let ds = c.args.scene.definitions.now in
     let f = section_faults F at c.args.scene.image c.args.scene.view.now ds in
     let section = c.section-item.result in
     let is : section ≡ get_or c.args.scene.view.now.sections c.loop-k.k section = c.section-item.is ∙ ap (λ (xs : List ViewSection). get_or xs c.loop-k.k section) c.sections-section-items.ensures in
@@ -23,7 +23,7 @@ pub loop-k-preserved : goal.loop-k-preserved
 loop-k-preserved c =
     let F = address_found c.args.scene.exports.now c.args.scene.outsides.now in
     let at = given c.args.scene.addresses.now c.args.scene.image in
-    let ds = map definition_seen c.args.scene.definitions.now in
+    let ds = c.args.scene.definitions.now in
     let f = section_faults F at c.args.scene.image c.args.scene.view.now ds in
     let section = c.section-item.result in
     let is : section ≡ get_or c.args.scene.view.now.sections c.loop-k.k section = c.section-item.is ∙ ap (λ (xs : List ViewSection). get_or xs c.loop-k.k section) c.sections-section-items.ensures in

@@ -11,5 +11,5 @@ abbrev pub invariant-loop-k : goal.invariant-loop-k
 invariant-loop-k l =
     let F = address_found l.scene.exports.now l.scene.outsides.now in
     let at = given l.scene.addresses.now l.scene.image in
-    let ds = map definition_seen l.scene.definitions.now in
+    let ds = l.scene.definitions.now in
     first_fault (view_faults F at l.scene.image l.scene.view.now ds) ≡ first_fault (flat_map (section_faults F at l.scene.image l.scene.view.now ds) (enumerate_from l.k (drop l.k l.scene.view.now.sections)))

@@ -18,5 +18,5 @@ returns-in-Some-value_of-clause-applied c =
     let held : holds_field c.args.start c.args.r c.args.r.kind (definition_seen c.args.definition) ≡ true = ap (λ (o : Option FixKind). holds_field c.args.start c.args.r o (definition_seen c.args.definition)) c.in-Some.is ∙ sym c.if-not-holds_range.ensures in
     let value : value_bytes c.in-Some.kind c.in-At.address c.args.r.addend (c.args.definition.address + (c.args.start + c.args.r.offset - c.args.definition.symbol.address)) ≡ Some (little_bytes (fix_width c.in-Some.kind) c.in-Some-value_of.number) =
     ap (λ (p : ℕ). value_bytes c.in-Some.kind c.in-At.address c.args.r.addend p) (sym place) ∙ sym (simp to_z-of_z at c.in-Some-value_of.ensures) in
-    applies_value (address_found c.args.scene.exports.now c.args.scene.outsides.now) at c.args.scene.view.now (map definition_seen c.args.scene.definitions.now) (definition_seen c.args.definition) c.args.start c.args.r c.in-Some.kind c.in-At.address c.args.bytes.now c.put_number.new.out _ c.in-Some.is held (sym c.in-At.ensures.led) value
+    applies_value (address_found c.args.scene.exports.now c.args.scene.outsides.now) at c.args.scene.view.now c.args.scene.definitions.now (definition_seen c.args.definition) c.args.start c.args.r c.in-Some.kind c.in-At.address c.args.bytes.now c.put_number.new.out _ c.in-Some.is held (sym c.in-At.ensures.led) value
     (patched c.args.bytes.now c.put_number.new.out _ _ _ _ _ c.put_number.ensures.bytes (omega arith) c.width_of.ensures.width)

@@ -1,0 +1,2 @@
+pub mod FreePart
+pub mod ReadBack

@@ -1,0 +1,4 @@
+pub mod Input
+pub mod Views
+pub mod Lines
+pub mod Outcomes
