@@ -264,62 +264,49 @@ def way():
     picture.text(16, 28, "The way of a file", 17, weight="bold")
     picture.text(16, 48, "Blue: a call, with its crate. White: what it gives.", 12, color=FAINT)
 
-    def node(x, y, name, crate, kind="step", w=200):
-        h = 46
-        picture.box(x, y, w, h, COLORS[kind], 4 if kind == "step" else 14)
-        picture.text(x + w / 2, y + (20 if crate else 28), name, 13, "middle", weight="bold" if kind == "step" else "normal")
-        if crate:
-            picture.text(x + w / 2, y + 36, crate, 11, "middle", FAINT)
+    width, height, columns = 200, 46, (90, 332, 572)
 
-    def down(x, y, to):
-        picture.line([(x, y), (x, to)], True)
+    def node(x, y, name, note, kind):
+        picture.box(x, y, width, height, COLORS[kind], 4 if kind == "step" else 14)
+        picture.text(x + width / 2, y + (20 if note else 28), name, 13, "middle", weight="bold" if kind == "step" else "normal")
+        if note:
+            picture.text(x + width / 2, y + 36, note, 11, "middle", FAINT)
 
-    def right(y, x, to):
-        picture.line([(x, y), (to, y)], True)
+    # A row of nodes, of which each leads to the next one: to the right, or back to the left.
+    def row(y, nodes, back=False):
+        xs = list(reversed(columns) if back else columns)
+        for k, (name, note, kind) in enumerate(nodes):
+            node(xs[k], y, name, note, kind)
+            if k + 1 < len(nodes):
+                middle = y + height / 2
+                ends = (xs[k], xs[k + 1] + width + 2) if back else (xs[k] + width, xs[k + 1] - 2)
+                picture.line([(ends[0], middle), (ends[1], middle)], True)
+
+    # From a node of this column down to the one under it.
+    def down(column, y, to):
+        x = columns[column] + width / 2
+        picture.line([(x, y + height), (x, to - 2)], True)
 
     picture.text(16, 84, "build", 14, weight="bold")
-    node(90, 64, "input", "JSON: a list of parts", "value")
-    right(87, 290, 330)
-    node(332, 64, "script", "objtool_run")
-    right(87, 532, 570)
-    node(572, 64, "parts", "names, targets, commands", "value")
-    down(672, 110, 138)
-    node(572, 140, "build_image", "image_build")
-    picture.line([(572, 163), (534, 163)], True)
-    node(332, 140, "apply, each command", "cranelift_object, cranelift_module")
-    picture.line([(332, 163), (292, 163)], True)
-    node(90, 140, "link state", "cranelift_module", "value")
-    down(190, 186, 214)
-    node(90, 216, "finish", "cranelift_object")
-    right(239, 290, 330)
-    node(332, 216, "object", "object_core", "value")
-    right(239, 532, 570)
-    node(572, 216, "emit_elf, emit_macho", "object_elf, object_macho")
-    down(672, 262, 290)
-    node(572, 292, "file of a part", "ELF64 or Mach-O", "value")
-    picture.line([(572, 315), (534, 315)], True)
-    node(332, 292, "FatWriter, of several", "fat_macho")
-    picture.line([(332, 315), (292, 315)], True)
-    node(90, 292, "output", "hexadecimal, or the file", "value")
+    row(64, [("input", "JSON: a list of parts", "value"), ("script", "objtool_run", "step"), ("parts", "names, targets, commands", "value")])
+    down(2, 64, 140)
+    row(140, [("build_image", "image_build", "step"), ("apply, each command", "cranelift_object, cranelift_module", "step"),
+              ("link state", "cranelift_module", "value")], True)
+    down(0, 140, 216)
+    row(216, [("finish", "cranelift_object", "step"), ("object", "object_core", "value"),
+              ("emit_elf, emit_macho", "object_elf, object_macho", "step")])
+    down(2, 216, 292)
+    row(292, [("file of a part", "ELF64 or Mach-O", "value"), ("FatWriter, of several", "fat_macho", "step"),
+              ("output", "hexadecimal, or the file", "value")], True)
     picture.line([(672, 338), (672, 352), (190, 352), (190, 340)], True)
     picture.text(431, 366, "of one part: the file itself", 11, "middle", FAINT)
     picture.text(16, 406, "read", 14, weight="bold")
-    node(90, 386, "input", "any bytes", "value")
-    right(409, 290, 330)
-    node(332, 386, "read_image", "image_read")
-    right(409, 532, 570)
-    node(572, 386, "image", "rows, names, slices", "value")
-    down(672, 432, 460)
-    node(572, 462, "image_text", "image_json")
-    picture.line([(572, 485), (534, 485)], True)
-    node(332, 462, "output", "a line of JSON", "value")
-    picture.text(800, 84, "status 2: words", 12, color=FAINT)
-    picture.text(800, 102, "3, 7: reading", 12, color=FAINT)
-    picture.text(800, 120, "6: not of the form", 12, color=FAINT)
-    picture.text(800, 166, "1: refused, with part,", 12, color=FAINT)
-    picture.text(800, 184, "command and cause", 12, color=FAINT)
-    picture.text(800, 318, "4: writing", 12, color=FAINT)
-    picture.text(800, 408, "1: no format reads it", 12, color=FAINT)
+    row(386, [("input", "any bytes", "value"), ("read_image", "image_read", "step"), ("image", "rows, names, slices", "value")])
+    down(2, 386, 462)
+    row(462, [("image_text", "image_json", "step"), ("output", "a line of JSON", "value")], True)
+    for y, words in [(84, "status 2: words"), (102, "3, 7: reading"), (120, "6: not of the form"), (166, "1: refused, with part,"),
+                     (184, "command and cause"), (318, "4: writing"), (408, "1: no format reads it")]:
+        picture.text(800, y, words, 12, color=FAINT)
     return picture
 
 

@@ -1,6 +1,6 @@
 //! The adapters over files of the system. They are the trusted edge: what a file holds isn't known.
 
-ghost use Rattle.std.specs.Prelude.{◌≡◌, ◌≤◌, length, IfOk};
+ghost use Rattle.std.specs.Prelude.{◌≡◌, ◌≤◌, None, true, length, IfOk};
 
 use crate::{Failed, Sink, Source};
 use std::fs::OpenFile;
@@ -28,8 +28,10 @@ impl<F> Model for FileSource<F> {
 }
 
 impl<F: Read + Seek + OpenFile + Drop> FileSource<F> {
-    /// The file of that path.
-    pub fn open<R: Files<File = F>>(rt: &R, path: &str) -> Result<FileSource<F>, Failed> {
+    /// The file of that path, of which no call failed. Its length is the one that the system tells.
+    pub fn open<R: Files<File = F>>(rt: &R, path: &str) -> Result<FileSource<F>, Failed>
+        ensures { IfOk result (λ source. (source.bytes ≡ None) × (source.can_fail ≡ true) × (source.faults ≡ 0)) }
+    {
         let Ok(file) = fs::open(rt, path) else {
             return Err(Failed);
         };
@@ -95,8 +97,10 @@ impl<F> Model for FileSink<F> {
 }
 
 impl<F: Write + Drop> FileSink<F> {
-    /// A new file of that path, in place of one that is there.
-    pub fn create<R: Files<File = F>>(rt: &R, path: &str) -> Result<FileSink<F>, Failed> {
+    /// A new file of that path, in place of one that is there. No call to it failed.
+    pub fn create<R: Files<File = F>>(rt: &R, path: &str) -> Result<FileSink<F>, Failed>
+        ensures { IfOk result (λ sink. (sink.written ≡ None) × (sink.faults ≡ 0)) }
+    {
         match fs::create(rt, path) {
             Ok(file) => Ok(FileSink { file, faults: 0 }),
             Err(_) => Err(Failed),

@@ -466,7 +466,8 @@ fn add_contents(
     requires stored { are_bytes (Some (definition.now).contents) ≡ true → HasBytes object.old section }
     requires sum { object.old.content_sum < 2 ^ 127 + 2 ^ 126 }
     ensures offset { IfOk result (λ offset. offset ≡ next_offset object.old section align) }
-    ensures ok { (unstored : Bool) → option_map (is_unstored object.old.format) (slice_get object.old.sections section) ≡ Some unstored → OnOk result (object.new ≡ with_kept (marks_symbol object.old.format (definition.now).used) (with_symbol_contents unstored object.old symbol section (definition.now).contents align) symbol) }
+    ensures ok { (unstored : Bool) → option_map (is_unstored object.old.format) (slice_get object.old.sections section) ≡ Some unstored
+        → OnOk result (object.new ≡ with_kept (marks_symbol object.old.format (definition.now).used) (with_symbol_contents unstored object.old symbol section (definition.now).contents align) symbol) }
 {
     let unstored = is_unstored(object, section);
     let marked = marks_symbol(object.format(), definition.used());

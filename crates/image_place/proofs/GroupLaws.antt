@@ -1,7 +1,7 @@
 -- Relocations that are grouped by the definitions that hold their fields.
 use Rattle.std.proofs.Common.{◌≡◌, ◌≢◌, ℕ, zero, suc, ◌+◌, ◌-◌, ◌<◌, ◌≤◌, ◌==◌, ◌⊎◌, inl, inr, List, [], ◌∷◌, ◌++◌, length, map, take, get_or, refl, ap, sym, ◌∙◌, arith, Some, None, Bool, true, false, slice_get, subst, append-nil, append_assoc, cond, length-append, set, Vec, Global}
-use Rattle.std.specs.Prelude.{Option, option_map, ◌&&◌, filter, nat_le, if◌then◌else◌}
-use Rattle.std.proofs.lemmas.Bool.{cases_order, cases_lt, eqb-true, eq-eqb, ne_eqb, eqb-false}
+use Rattle.std.specs.Prelude.{Option, option_map, ◌&&◌, filter, if◌then◌else◌}
+use Rattle.std.proofs.lemmas.Bool.{cases_order, eq-eqb, ne_eqb}
 use Rattle.std.proofs.lemmas.Option.{slice_get_within, slice_get-get_or, slice_get-map}
 use Rattle.std.proofs.lemmas.List.Elements.{filter_more}
 use Rattle.std.proofs.lemmas.List.{take_all, map-append}
@@ -13,8 +13,8 @@ use Rattle.image_place.specs.Spanning.{Span, covers, IsHolder}
 use Rattle.image_place.specs.Indexed.{AreIndexed, line_place, span_of}
 use Rattle.image_place.specs.Grouped.{AreEmpty, holds_here, Groups, GroupsOne, fields_of, HasFields, AreGrouped}
 use Rattle.image_place.proofs.DefinitionLaws.{long_map}
-use Rattle.image_place.proofs.IndexLaws.{SpanIs, span_is, HasSpan, has_span, span_once, covers_holds}
-use Rattle.image_place.proofs.HolderLaws.{HeldHere, held_by_span, span_before}
+use Rattle.image_place.proofs.IndexLaws.{has_span, span_once, covers_holds}
+use Rattle.image_place.proofs.HolderLaws.{held_by_span, span_before}
 use Rattle.image_place.proofs.JudgingLaws.{field_bytes}
 
 -- -- one relocation

@@ -1,6 +1,6 @@
 -- Definitions that hold some bytes, found one after the other from behind.
-use Rattle.std.proofs.Common.{◌≡◌, ◌≢◌, ℕ, zero, suc, ◌+◌, ◌-◌, ◌<◌, ◌≤◌, ◌==◌, ◌⊎◌, inl, inr, List, [], ◌∷◌, ◌++◌, length, get_or, refl, ap, sym, ◌∙◌, arith, Some, None, Bool, true, false, slice_get, subst, find, take, map}
-use Rattle.std.specs.Prelude.{Option, option_map, ◌&&◌, nat_lt, min}
+use Rattle.std.proofs.Common.{◌≡◌, ℕ, ◌+◌, ◌-◌, ◌<◌, ◌≤◌, ◌⊎◌, inl, inr, List, [], ◌∷◌, ◌++◌, length, get_or, refl, ap, sym, ◌∙◌, arith, Some, None, Bool, true, false, slice_get, subst, find, take, map}
+use Rattle.std.specs.Prelude.{option_map, nat_lt, min}
 use Rattle.std.specs.List.{list_any, enumerate_from}
 use Rattle.std.proofs.lemmas.Bool.{cases_lt, cases_order, lt-ltb, le-ltb}
 use Rattle.std.proofs.lemmas.Option.{slice_get_within, slice_get-get_or, get_or_from_slice_get, slice_get-map}
@@ -15,7 +15,7 @@ use Rattle.std.proofs.lemmas.List.{map-append, get_or-map}
 use Rattle.image_place.proofs.DefinitionLaws.{enumerate_more, long_map}
 use Rattle.byte_core.proofs.Lists.{each_more}
 use Rattle.image_place.proofs.FindLaws.{find_at, find_none}
-use Rattle.image_place.proofs.IndexLaws.{SpanIs, span_is, HasSpan, has_span, span_once, covers_holds}
+use Rattle.image_place.proofs.IndexLaws.{span_is, has_span, covers_holds}
 
 -- -- one range after the other
 

@@ -1,16 +1,15 @@
 -- Relocations and the definitions that hold their fields.
-use Rattle.std.proofs.Common.{◌≡◌, ℕ, ◌+◌, ◌-◌, ◌<◌, ◌≤◌, ◌==◌, List, [], ◌∷◌, length, refl, ap, sym, ◌∙◌, arith, Some, None, Bool, true, false, slice_get, subst}
-use Rattle.std.specs.Prelude.{Option, ◌&&◌, ◌||◌, nat_le}
+use Rattle.std.proofs.Common.{◌≡◌, ℕ, ◌+◌, ◌==◌, List, [], ◌∷◌, refl, ap, sym, ◌∙◌, Some, Bool, true, false, slice_get, subst}
+use Rattle.std.specs.Prelude.{◌&&◌, ◌||◌, nat_le}
 use Rattle.std.specs.List.{list_any}
-use Rattle.std.proofs.lemmas.Bool.{and_right, and_parts}
+use Rattle.std.proofs.lemmas.Bool.{and_right}
 use Rattle.image_place.specs.Fixups.{FixKind, fix_width}
 use Rattle.image_place.specs.View.{ViewReloc}
-use Rattle.image_place.specs.Placed.{Definition, holds, holds_field}
+use Rattle.image_place.specs.Placed.{Definition, holds}
 use Rattle.image_place.specs.Leading.{holds_it, is_far}
 use Rattle.image_place.specs.Spanning.{Span, IsHolder}
-use Rattle.image_place.specs.Holders.{IsDone}
-use Rattle.image_place.specs.Indexed.{AreIndexed, line_place}
-use Rattle.image_place.proofs.HolderLaws.{done_all, HeldHere, any_none, any_here}
+use Rattle.image_place.specs.Indexed.{line_place}
+use Rattle.image_place.proofs.HolderLaws.{HeldHere, any_none, any_here}
 
 and_grouped : (a b c : Bool) → (a && (b && c)) ≡ ((a && b) && c)
 and_grouped true b c = refl

@@ -1,11 +1,12 @@
 -- Files that are objects of one format.
-use Rattle.std.proofs.Common.{◌≡◌, ℕ, zero, suc, ◌+◌, ◌<◌, List, [], ◌∷◌, ◌++◌, length, take, map, refl, ap, sym, ◌∙◌, arith, Some, None, Bool, true, false, slice_get, length-append, get_or}
+use Rattle.std.proofs.Common.{◌≡◌, ℕ, zero, suc, ◌+◌, ◌<◌, ◌≤◌, ◌⊎◌, inl, inr, subst, List, [], ◌∷◌, ◌++◌, length, take, map, refl, ap, sym, ◌∙◌, arith, Some, None, Bool, true, false, slice_get, length-append, get_or}
+use Rattle.std.proofs.lemmas.Bool.{cases_lt}
 use Rattle.std.specs.Prelude.{not, if◌then◌else◌}
 use Rattle.image_read.specs.Image.{Reads, HasNoImage}
 use Rattle.image_read.specs.declared.image.Image.{Image}
 use Rattle.image_read.proofs.Laws.{one_image}
 use Rattle.image_place.specs.View.{View, view_of}
-use Rattle.image_place.specs.Placed.{IsViewed, IsNoObject, AreViewed, IsUnread, is_same_format, fits_format}
+use Rattle.image_place.specs.Placed.{IsViewed, IsNoObject, AreViewed, IsOfBytes, AreOfBytes, IsUnread, is_same_format, fits_format}
 
 some_same : {A : Type 0} (x y : A) → Some x ≡ Some y → x ≡ y
 some_same x y e = cc
@@ -157,3 +158,16 @@ unfit_at files q b vs v at h one off =
 
 pub viewed_at : (files : List (List ℕ)) (q : ℕ) (b : List ℕ) (vs : List View) (v : View) → slice_get files q ≡ Some b → AreViewed (take q files) vs → IsViewed b v → fits_format vs v ≡ true → AreViewed (take (q + 1) files) (vs ++ v ∷ [])
 viewed_at files q b vs v at h one fits = rw (take_end files q b at) (viewed_more (take q files) vs b v h one fits)
+
+-- -- bytes of files
+
+bytes_by : (files : List (List ℕ)) (n : ℕ) (b : List ℕ) → AreOfBytes files n → slice_get files n ≡ Some b → IsOfBytes b → (q : ℕ) (c : List ℕ) → (q < n) ⊎ (n ≤ q) → q < n + 1 → slice_get files q ≡ Some c → IsOfBytes c
+bytes_by files n b all here one q c (inl l) less at_q = all q c l at_q
+bytes_by files n b all here one q c (inr l) less at_q =
+    let same : n ≡ q = omega (arith, l, less) in
+    let is : b ≡ c = some_same b c (sym here ∙ ap (slice_get files) same ∙ at_q) in
+    subst IsOfBytes is one
+
+-- one file more
+pub bytes_more : (files : List (List ℕ)) (n : ℕ) (b : List ℕ) → AreOfBytes files n → slice_get files n ≡ Some b → IsOfBytes b → AreOfBytes files (n + 1)
+bytes_more files n b all here one q c less at_q = bytes_by files n b all here one q c (cases_lt q n) less at_q

@@ -1,5 +1,5 @@
 -- The relocations of an image by the definitions that hold their fields.
-use Rattle.std.specs.Prelude.{◌≡◌, ◌≢◌, ℕ, ◌==◌, ◌&&◌, Bool, List, [], ◌∷◌, ◌++◌, length, filter, slice_get, Some, if◌then◌else◌}
+use Rattle.std.specs.Prelude.{◌≡◌, ◌≢◌, ℕ, ◌==◌, ◌&&◌, Bool, List, [], ◌∷◌, ◌++◌, length, filter, slice_get, Some}
 use Rattle.image_place.specs.View.{View, ViewReloc, ViewSection}
 use Rattle.image_place.specs.Placed.{Definition, holds_field}
 

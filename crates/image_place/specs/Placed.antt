@@ -1,7 +1,7 @@
 -- What placement answers for images: the bytes of each definition in memory, or the first refusal.
 use Rattle.std.specs.Prelude.{◌≡◌, ℕ, ◌+◌, ◌-◌, ◌^◌, ◌<◌, ◌==◌, ◌&&◌, ◌||◌, not, nat_lt, nat_le, Bool, true, false, List, [], ◌∷◌, ◌++◌, length, map, flat_map, filter, find, take, slice_get, bytes_eq, Option, Some, None, option_map, option_and_then, is_some, if◌then◌else◌}
 use Rattle.std.specs.Option.{option_or}
-use Rattle.std.specs.List.{filter_map, enumerate_from, list_any}
+use Rattle.std.specs.List.{All, filter_map, enumerate_from, list_any}
 use Rattle.ir_core.specs.Moments.{Moment, moments}
 use Rattle.byte_core.specs.Number.{bytes_at}
 use Rattle.image_read.specs.Image.{Reads}
@@ -227,6 +227,15 @@ pub record AreViewed (files : List (List ℕ)) (views : List View) : Type 0 wher
   pub count : length views ≡ length files
   pub each : (q : ℕ) (b : List ℕ) (v : View) → slice_get files q ≡ Some b → slice_get views q ≡ Some v → IsViewed b v
   pub format : (q : ℕ) (v w : View) → slice_get views 0 ≡ Some v → slice_get views q ≡ Some w → is_same_format v w ≡ true
+
+-- a list that a value carries: bytes, and fewer than 2^64 of them
+pub record IsOfBytes (b : List ℕ) : Type 0 where
+  pub bytes : All (λ x. x < 256) b
+  pub short : length b < 2 ^ 64
+
+-- so are the files, or so many first ones
+abbrev pub AreOfBytes : List (List ℕ) → ℕ → Type 0
+AreOfBytes files count = (q : ℕ) (b : List ℕ) → q < count → slice_get files q ≡ Some b → IsOfBytes b
 
 -- the entries are what placement gives for the files
 pub record Placed (files : List (List ℕ)) (addresses : List AddressRow) (externs : List (List ℕ × ℕ)) (out : List PlacedEntry) : Type 0 where

@@ -1,6 +1,6 @@
 //! Address rows, found by image and symbol.
 
-ghost use Rattle.std.specs.Prelude.{◌≡◌, ◌+◌, ◌*◌, ◌^◌, true, IfOk, OnOk};
+ghost use Rattle.std.specs.Prelude.{◌≡◌, ◌+◌, ◌*◌, ◌^◌, ◌<◌, ◌≤◌, true, false, length, IfOk, OnOk};
 ghost use Rattle.image_place.specs.Placed.{row_for, given};
 ghost use Rattle.image_place.specs.Finding.{AreOrdered, FindsRows, NotesRow, is_row, row_key};
 
@@ -88,22 +88,51 @@ fn ordered_row(rows: &[DefAddress], image: usize, symbol: u32) -> Option<DefAddr
     requires order { AreOrdered rows.now }
     ensures { result ≡ row_for rows.now image symbol }
 {
-    let key = key_of(image, symbol);
     let mut first = 0;
     let mut end = rows.len();
     while first < end {
-        let middle = first + (end - first) / 2;
-        let row = rows[middle];
+        let place = probe(rows, first, end, image, symbol);
+        let row = rows[place];
         if is_row_of(row, image, symbol) {
             return Some(row);
         }
-        if key_of(row.image, row.symbol) < key {
-            first = middle + 1;
+        if is_before(row, image, symbol) {
+            first = place + 1;
         } else {
-            end = middle;
+            end = place;
         }
     }
     None
+}
+
+// A place from `first` to below `end`, at which a symbol's row is looked for: its own, where the symbols of its image have a row
+// each from `first` on; the middle, where that one lies outside.
+fn probe(rows: &[DefAddress], first: usize, end: usize, image: usize, symbol: u32) -> usize
+    requires some { first < end }
+    requires inside { end ≤ length rows.now }
+    ensures start { first ≤ result }
+    ensures end { result < end }
+{
+    let row = rows[first];
+    if row.image == image && row.symbol <= symbol {
+        let ahead = (symbol - row.symbol) as usize;
+        if ahead < end - first {
+            return first + ahead;
+        }
+    }
+    first + (end - first) / 2
+}
+
+// Whether a row stands before that of a symbol of an image.
+fn is_before(row: DefAddress, image: usize, symbol: u32) -> bool
+    ensures yes { result ≡ true → row_key row.image row.symbol < row_key image symbol }
+    ensures no { result ≡ false → row_key image symbol ≤ row_key row.image row.symbol }
+{
+    if row.image == image {
+        row.symbol < symbol
+    } else {
+        row.image < image
+    }
 }
 
 fn is_row_of(row: DefAddress, image: usize, symbol: u32) -> bool

@@ -26,7 +26,9 @@ pub fn append_entries(
 ) -> Result<(), AllocError>
     requires ranges { HaveRanges scene.view.now scene.definitions.now }
     requires grouped { AreGrouped scene.view.now scene.definitions.now (map (λ f. f.items) fields.now) }
-    ensures { OnOk result (map placed_view out.new.items ≡ map placed_view out.old.items ++ filter_map (entry_by (address_found scene.entry.exports.now scene.entry.outsides.now) (given scene.entry.addresses.now scene.entry.image) scene.entry.image scene.entry.view.now scene.entry.definitions.now) scene.entry.definitions.now) }
+    ensures { OnOk result (map placed_view out.new.items ≡ map placed_view out.old.items
+        ++ filter_map (entry_by (address_found scene.entry.exports.now scene.entry.outsides.now) (given scene.entry.addresses.now scene.entry.image)
+        scene.entry.image scene.entry.view.now scene.entry.definitions.now) scene.entry.definitions.now) }
 {
     for (number, definition) in scene.definitions.rows().iter().enumerate() {
         append_entry(alloc, scene, *definition, &fields[number], out)?;
@@ -44,7 +46,9 @@ fn append_entry(
 ) -> Result<(), AllocError>
     requires home { IsHome scene.view.now (definition_seen definition) }
     requires fields { HasFields scene.view.now (definition_seen definition) fields.now }
-    ensures { OnOk result (map placed_view out.new.items ≡ map placed_view out.old.items ++ one_or_none (entry_by (address_found scene.entry.exports.now scene.entry.outsides.now) (given scene.entry.addresses.now scene.entry.image) scene.entry.image scene.entry.view.now scene.entry.definitions.now (definition_seen definition.entry))) }
+    ensures { OnOk result (map placed_view out.new.items ≡ map placed_view out.old.items
+        ++ one_or_none (entry_by (address_found scene.entry.exports.now scene.entry.outsides.now) (given scene.entry.addresses.now scene.entry.image)
+        scene.entry.image scene.entry.view.now scene.entry.definitions.now (definition_seen definition.entry))) }
 {
     let section = &scene.view.sections()[definition.section];
     let Some(bytes) = placed_bytes(alloc, scene, definition, section, fields)? else {
@@ -69,7 +73,9 @@ fn placed_bytes(
 ) -> Result<Option<Vec<u8>>, AllocError>
     requires range { HasRange section.now (definition_seen definition) }
     requires fields { fields.now ≡ fields_of section.now (definition_seen definition) }
-    ensures { IfOk result (λ bytes. option_map (λ v. v.items) bytes ≡ bytes_by (address_found scene.entry.exports.now scene.entry.outsides.now) (given scene.entry.addresses.now scene.entry.image) scene.entry.view.now scene.entry.definitions.now (definition_seen definition.entry) section.now) }
+    ensures { IfOk result (λ bytes. option_map (λ v. v.items) bytes
+        ≡ bytes_by (address_found scene.entry.exports.now scene.entry.outsides.now) (given scene.entry.addresses.now scene.entry.image)
+        scene.entry.view.now scene.entry.definitions.now (definition_seen definition.entry) section.now) }
 {
     let mut bytes = contents_of(alloc, section, definition.symbol.address, definition.size)?;
     for relocation in fields {

@@ -30,7 +30,8 @@ pub fn view_fault(scene: Scene<'_>) -> Option<PlaceFault>
 
 // The first refusal of the relocations of a section, which has number `k`.
 fn section_fault(scene: Scene<'_>, k: usize, section: &ViewSection<'_>) -> Option<PlaceFault>
-    ensures { result ≡ first_fault (map (fault_by (address_found scene.entry.exports.now scene.entry.outsides.now) (given scene.entry.addresses.now scene.entry.image) scene.entry.image scene.entry.view.now scene.entry.definitions.now k (section.now).start) (section.now).relocations) }
+    ensures { result ≡ first_fault (map (fault_by (address_found scene.entry.exports.now scene.entry.outsides.now) (given scene.entry.addresses.now scene.entry.image)
+        scene.entry.image scene.entry.view.now scene.entry.definitions.now k (section.now).start) (section.now).relocations) }
 {
     for relocation in section.relocations() {
         if let Some(fault) = fault_of(scene, k, section.start(), *relocation) {

@@ -1,8 +1,9 @@
 //! The objects that files are, all of one format.
 
-ghost use Rattle.std.specs.Prelude.{◌≡◌, IfOk, IfErr, map};
+ghost use Rattle.std.specs.Prelude.{◌≡◌, ◌<◌, ◌^◌, length, IfOk, IfErr, OnOk, map};
+ghost use Rattle.std.specs.List.{All};
 ghost use Rattle.image_place.specs.View.{view_of};
-ghost use Rattle.image_place.specs.Placed.{AreViewed, IsViewed, fits_format, is_same_format};
+ghost use Rattle.image_place.specs.Placed.{AreOfBytes, AreViewed, IsViewed, fits_format, is_same_format};
 ghost use Rattle.image_place.specs.Views.{ExplainsView, TellsUnread};
 
 use crate::elf::elf_view;
@@ -44,6 +45,8 @@ pub fn view_of<'a>(alloc: Global, image: &Image<'a>) -> Result<Option<View<'a>>,
 pub fn object_view<'a>(alloc: Global, bytes: &'a [u8]) -> Result<View<'a>, ReadError>
     ensures ok { IfOk result (λ view. IsViewed bytes.now view) }
     ensures cause { IfErr result (ExplainsView bytes.now) }
+    ensures bytes { All (λ x. x < 256) bytes.now }
+    ensures short { length bytes.now < 2 ^ 64 }
 {
     let image = read_image(alloc, bytes)?;
     match view_of(alloc, &image)? {
@@ -57,6 +60,7 @@ pub fn object_view<'a>(alloc: Global, bytes: &'a [u8]) -> Result<View<'a>, ReadE
 pub fn object_views<'a>(alloc: Global, files: &'a [Vec<u8>]) -> Result<Vec<View<'a>>, PlaceError>
     ensures ok { IfOk result (λ views. AreViewed (map (λ b. b.items) files.now) views.items) }
     ensures cause { IfErr result (TellsUnread (map (λ b. b.items) files.now)) }
+    ensures bytes { OnOk result (AreOfBytes (map (λ b. b.items) files.now) (length files.now)) }
 {
     let mut views = Vec::new(alloc);
     for (image, bytes) in files.iter().enumerate() {

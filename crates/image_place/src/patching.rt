@@ -23,7 +23,8 @@ pub fn apply(
     bytes: &mut [u8],
 ) -> bool
     requires room { definition.size ≤ length bytes.old }
-    ensures applied { Applies (address_found scene.entry.exports.now scene.entry.outsides.now) (given scene.entry.addresses.now scene.entry.image) scene.entry.view.now scene.entry.definitions.now (definition_seen definition.entry) start r bytes.old result bytes.new }
+    ensures applied { Applies (address_found scene.entry.exports.now scene.entry.outsides.now) (given scene.entry.addresses.now scene.entry.image)
+        scene.entry.view.now scene.entry.definitions.now (definition_seen definition.entry) start r bytes.old result bytes.new }
     ensures len { length bytes.new ≡ length bytes.old }
 {
     let Some(kind) = r.kind else {

@@ -5,6 +5,7 @@ ghost use Rattle.std.specs.List.{filter_map};
 ghost use Rattle.image_place.specs.Placed.{Placed, first_fault, given, place_fault, placed_entries};
 ghost use Rattle.image_place.specs.Applying.{AllHaveRanges, AreWhole, HaveRanges, entries_by, entry_by};
 ghost use Rattle.image_place.specs.Faults.{TellsFault, definition_faults};
+ghost use Rattle.image_place.specs.Laws.{PlacedIsMemory};
 ghost use Rattle.image_place.specs.Leading.{faults_by, view_faults};
 ghost use Rattle.image_place.specs.Naming.{address_found};
 ghost use Rattle.image_place.specs.Views.{TellsPlace, extern_view, placed_view};
@@ -33,6 +34,9 @@ use std::collections::HashMap;
 /// The bytes in memory of each definition of x86_64 objects of one format, ELF or Mach-O, with its relocations written
 /// into them: an entry for each definition, by image and row. Of several address rows for a definition, or several
 /// addresses for a name from outside, the first counts. An error is the first cause in the order of `PlaceError`.
+///
+/// Of the files of parts, each with the address rows of its definitions and with labels that lie below the end of their
+/// functions, each definition's entry holds exactly the memory that its part's commands say.
 pub fn place(
     alloc: Global,
     images: &[Vec<u8>],
@@ -40,6 +44,7 @@ pub fn place(
     externs: &[Extern],
 ) -> Result<Vec<PlacedBytes>, PlaceError>
     ensures placed { IfOk result (λ out. Placed (map (λ b. b.items) images.now) addresses.now (map extern_view externs.now) (map placed_view out.items)) }
+    ensures memory { IfOk result (λ out. PlacedIsMemory (map (λ b. b.items) images.now) addresses.now (map extern_view externs.now) (map placed_view out.items)) }
     ensures cause { IfErr result (TellsPlace (map (λ b. b.items) images.now) addresses.now (map extern_view externs.now)) }
 {
     let views = object_views(alloc, images)?;
@@ -122,7 +127,9 @@ fn place_image(
 ) -> Result<(), PlaceError>
     requires ranges { HaveRanges scene.view.now scene.definitions.now }
     ensures none { OnOk result (first_fault (view_faults (address_found scene.entry.exports.now scene.entry.outsides.now) (given scene.entry.addresses.now scene.entry.image) scene.entry.image scene.entry.view.now scene.entry.definitions.now) ≡ None) }
-    ensures placed { OnOk result (map placed_view out.new.items ≡ map placed_view out.old.items ++ filter_map (entry_by (address_found scene.entry.exports.now scene.entry.outsides.now) (given scene.entry.addresses.now scene.entry.image) scene.entry.image scene.entry.view.now scene.entry.definitions.now) scene.entry.definitions.now) }
+    ensures placed { OnOk result (map placed_view out.new.items ≡ map placed_view out.old.items
+        ++ filter_map (entry_by (address_found scene.entry.exports.now scene.entry.outsides.now) (given scene.entry.addresses.now scene.entry.image)
+        scene.entry.image scene.entry.view.now scene.entry.definitions.now) scene.entry.definitions.now) }
     ensures cause { IfErr result (TellsFault (first_fault (view_faults (address_found scene.entry.exports.now scene.entry.outsides.now) (given scene.entry.addresses.now scene.entry.image) scene.entry.image scene.entry.view.now scene.entry.definitions.now))) }
 {
     if let Some(fault) = view_fault(scene) {

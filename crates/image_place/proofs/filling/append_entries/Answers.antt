@@ -1,4 +1,4 @@
-use Rattle.std.proofs.Common.{◌≡◌, ◌+◌, ◌<◌, ◌≤◌, Some, map, length, slice_get, ap, arith}
+use Rattle.std.proofs.Common.{◌<◌, map, length, ap, arith}
 use Rattle.image_place.specs.Applying.{entry_by}
 use Rattle.image_place.specs.Naming.{address_found}
 use Rattle.image_place.specs.Placed.{given}

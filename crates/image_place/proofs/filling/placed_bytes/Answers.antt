@@ -1,4 +1,4 @@
-use Rattle.std.proofs.Common.{◌≡◌, ◌-◌, List, ℕ, map, length, ap, sym, ◌∙◌, arith}
+use Rattle.std.proofs.Common.{◌-◌, List, ℕ, length, ap, sym, ◌∙◌, arith}
 use Rattle.std.proofs.lemmas.List.{drop_all}
 use Rattle.byte_core.specs.Number.{bytes_at}
 use Rattle.image_place.specs.Fixups.{fixed}

@@ -1,4 +1,4 @@
-use Rattle.std.proofs.Common.{◌≡◌, ◌≤◌, length, map, drop}
+use Rattle.std.proofs.Common.{◌≡◌, ◌≤◌, length, drop}
 use Rattle.image_place.specs.Fixups.{fixed}
 use Rattle.image_place.specs.Applying.{bytes_by, held_by}
 use Rattle.image_place.specs.Naming.{address_found}

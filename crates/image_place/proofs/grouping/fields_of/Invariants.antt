@@ -1,4 +1,4 @@
-use Rattle.std.proofs.Common.{◌≡◌, List, map}
+use Rattle.std.proofs.Common.{map}
 use Rattle.image_place.proofs.GroupLaws.{GroupedTo, items_of}
 use Rattle.image_place.proofs.grouping.fields_of.Given as goal
 

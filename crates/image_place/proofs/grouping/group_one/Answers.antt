@@ -1,9 +1,6 @@
-use Rattle.std.proofs.Common.{◌≡◌, ◌+◌, ◌-◌, ◌<◌, ◌≤◌, ℕ, length, map, ap, sym, ◌∙◌, subst, arith}
-use Rattle.image_place.specs.Fixups.{fix_width}
-use Rattle.image_place.specs.Spanning.{IsHolder}
+use Rattle.std.proofs.Common.{◌≡◌, ◌+◌, ◌-◌, ◌<◌, length, map, subst, arith}
 use Rattle.image_place.specs.Indexed.{line_place}
 use Rattle.image_place.proofs.DefinitionLaws.{long_map}
-use Rattle.image_place.proofs.HolderLaws.{number_within}
 use Rattle.image_place.proofs.JudgingLaws.{same_place}
 use Rattle.image_place.proofs.GroupLaws.{WritesFrom, items_of, writes_none, writes_next, groups_all, groups_kindless, writes_held}
 use Rattle.image_place.proofs.grouping.group_one.Goals as goal

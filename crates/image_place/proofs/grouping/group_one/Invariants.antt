@@ -1,5 +1,4 @@
-use Rattle.std.proofs.Common.{◌≡◌, ◌+◌, ℕ, map, length}
-use Rattle.image_place.specs.Fixups.{fix_width}
+use Rattle.std.proofs.Common.{◌+◌, map}
 use Rattle.image_place.specs.Indexed.{line_place}
 use Rattle.image_place.proofs.GroupLaws.{WritesFrom, items_of}
 use Rattle.image_place.proofs.grouping.group_one.Given as goal

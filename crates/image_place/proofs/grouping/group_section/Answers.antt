@@ -1,7 +1,6 @@
-use Rattle.std.proofs.Common.{◌≡◌, ◌+◌, ◌<◌, ◌≤◌, List, length, map, ap, sym, ◌∙◌, subst, arith, get_or, None}
-use Rattle.std.specs.Prelude.{ℤ, pos}
+use Rattle.std.proofs.Common.{◌<◌, List, length, map, ap, subst, arith, get_or, None}
+use Rattle.std.specs.Prelude.{pos}
 use Rattle.image_place.specs.View.{ViewReloc}
-use Rattle.image_place.specs.Placed.{Definition}
 use Rattle.image_place.specs.Grouped.{Groups, holds_here}
 use Rattle.image_place.proofs.DefinitionLaws.{long_map}
 use Rattle.image_place.proofs.GroupLaws.{items_of, one_if, groups_start, groups_more, groups_end}

@@ -1,4 +1,4 @@
-use Rattle.std.proofs.Common.{◌≡◌, List, map, take, length}
+use Rattle.std.proofs.Common.{map, take}
 use Rattle.std.specs.Prelude.{filter}
 use Rattle.image_place.specs.Grouped.{Groups, holds_here}
 use Rattle.image_place.proofs.GroupLaws.{items_of}

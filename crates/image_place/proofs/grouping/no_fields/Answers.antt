@@ -1,6 +1,3 @@
-use Rattle.std.proofs.Common.{◌≡◌, ◌+◌, ◌∷◌, [], ◌++◌, List, Vec, Global, map, ap, sym, ◌∙◌, subst}
-use Rattle.image_place.specs.Grouped.{AreEmpty}
-use Rattle.image_place.specs.View.{ViewReloc}
 use Rattle.image_place.proofs.GroupLaws.{empty_pushed}
 use Rattle.image_place.proofs.grouping.no_fields.Goals as goal
 

@@ -1,4 +1,4 @@
-use Rattle.std.proofs.Common.{◌≡◌, List, map}
+use Rattle.std.proofs.Common.{map}
 use Rattle.image_place.specs.Grouped.{AreEmpty}
 use Rattle.image_place.proofs.grouping.no_fields.Given as goal
 

@@ -1,4 +1,4 @@
-use Rattle.std.proofs.Common.{◌≡◌, ◌≤◌, map, length, ap, sym, arith}
+use Rattle.std.proofs.Common.{length, ap, sym, arith}
 use Rattle.image_place.specs.RangeRows.{definition_seen}
 use Rattle.image_place.proofs.DefinitionLaws.{long_map}
 use Rattle.image_place.proofs.HolderLaws.{first_found, none_found}

@@ -1,12 +1,11 @@
-use Rattle.std.proofs.Common.{◌≡◌, ◌+◌, ◌-◌, ◌<◌, ◌≤◌, ℕ, length, map, Some, true, slice_get, ap, sym, ◌∙◌, subst, arith}
+use Rattle.std.proofs.Common.{◌≡◌, ◌-◌, ◌≤◌, length, ap, ◌∙◌, subst, arith}
 use Rattle.std.proofs.lemmas.Option.{slice_get_within}
-use Rattle.image_place.specs.Placed.{Definition, holds}
 use Rattle.image_place.specs.Spanning.{IsHolder}
 use Rattle.image_place.specs.Holders.{IsDone}
 use Rattle.image_place.specs.Indexed.{line_place}
 use Rattle.image_place.specs.RangeRows.{definition_seen}
 use Rattle.image_place.proofs.DefinitionLaws.{long_map}
-use Rattle.image_place.proofs.HolderLaws.{done_first, done_weaker, done_more, done_all, HeldHere, held_here, first_here}
+use Rattle.image_place.proofs.HolderLaws.{done_first, done_weaker, done_more, done_all, held_here, first_here}
 use Rattle.image_place.proofs.holding.first_number.Goals as goal
 
 pub loop-place-init : goal.loop-place-init

@@ -1,4 +1,4 @@
-use Rattle.std.proofs.Common.{◌≡◌, ◌≤◌, ℕ, slice_get, Some, true}
+use Rattle.std.proofs.Common.{◌≡◌, ◌≤◌, slice_get, Some, true}
 use Rattle.image_place.specs.Placed.{Definition, holds}
 use Rattle.image_place.specs.Holders.{IsDone}
 use Rattle.image_place.specs.Indexed.{line_place}

@@ -1,4 +1,4 @@
-use Rattle.std.proofs.Common.{◌≡◌, ◌<◌, ◌^◌, ℕ, length, sym, subst}
+use Rattle.std.proofs.Common.{length, sym, subst}
 use Rattle.image_place.specs.Spanning.{IsHolder}
 use Rattle.image_place.proofs.HolderLaws.{held_any}
 use Rattle.image_place.proofs.holding.is_held.Goals as goal

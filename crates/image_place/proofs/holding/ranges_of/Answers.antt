@@ -1,7 +1,5 @@
-use Rattle.std.proofs.Common.{◌≡◌, ◌+◌, ◌<◌, ◌≤◌, ℕ, map, length, ap, arith, ◌∙◌, Some, slice_get, get_or, subst}
-use Rattle.std.specs.Prelude.{Option, option_map}
-use Rattle.byte_core.proofs.Lists.{each_more, each_all}
-use Rattle.image_place.specs.Placed.{Definition}
+use Rattle.std.proofs.Common.{map, arith}
+use Rattle.byte_core.proofs.Lists.{each_all}
 use Rattle.image_place.specs.RangeRows.{definition_seen}
 use Rattle.image_place.specs.Indexed.{IsSmall}
 use Rattle.image_place.proofs.DefinitionLaws.{long_map}

@@ -1,6 +1,5 @@
-use Rattle.std.proofs.Common.{◌≡◌, ◌+◌, ℕ, sym, ap, ◌∙◌}
+use Rattle.std.proofs.Common.{◌+◌, sym, ap, ◌∙◌}
 use Rattle.std.specs.List.{list_any}
-use Rattle.image_place.specs.Fixups.{fix_width}
 use Rattle.image_place.specs.Placed.{holds}
 use Rattle.image_place.proofs.JudgingLaws.{any_field}
 use Rattle.image_place.proofs.judging.holds_some.Goals as goal

@@ -1,13 +1,8 @@
-use Rattle.std.proofs.Common.{rules, ◌≡◌, ◌+◌, ◌-◌, ◌<◌, ◌≤◌, ◌*◌, ℕ, length, map, Some, true, false, slice_get, ap, sym, ◌∙◌, subst, arith}
-use Rattle.std.proofs.lemmas.Option.{slice_get_within}
+use Rattle.std.proofs.Common.{◌≡◌, ◌+◌, ◌-◌, length, sym, ◌∙◌, subst, arith}
 use Rattle.image_place.specs.Fixups.{fix_width}
-use Rattle.image_place.specs.Placed.{Definition, holds}
-use Rattle.image_place.specs.RangeRows.{definition_seen}
-use Rattle.image_place.specs.Spanning.{IsHolder}
 use Rattle.image_place.specs.Holders.{IsDone}
 use Rattle.image_place.specs.Indexed.{line_place}
-use Rattle.image_place.proofs.DefinitionLaws.{long_map}
-use Rattle.image_place.proofs.HolderLaws.{done_first, done_more, done_all, HeldHere, held_here, number_within}
+use Rattle.image_place.proofs.HolderLaws.{done_first, done_more, done_all, held_here, number_within}
 use Rattle.image_place.proofs.JudgingLaws.{FitsIn, far_here, none_far, fits_here, same_holder}
 use Rattle.image_place.proofs.judging.leads_too_far.Goals as goal
 

@@ -1,4 +1,4 @@
-use Rattle.std.proofs.Common.{◌≡◌, ◌+◌, ℕ}
+use Rattle.std.proofs.Common.{◌+◌}
 use Rattle.image_place.specs.Fixups.{fix_width}
 use Rattle.image_place.specs.Holders.{IsDone}
 use Rattle.image_place.specs.Indexed.{line_place}

@@ -2,7 +2,6 @@ use Rattle.std.proofs.Common.{◌≡◌, map, drop}
 use Rattle.image_place.specs.Leading.{fault_by}
 use Rattle.image_place.specs.Naming.{address_found}
 use Rattle.image_place.specs.Placed.{first_fault, given}
-use Rattle.image_place.specs.RangeRows.{definition_seen}
 use Rattle.image_place.proofs.judging.section_fault.Given as goal
 
 abbrev pub invariant-loop-relocation : goal.invariant-loop-relocation

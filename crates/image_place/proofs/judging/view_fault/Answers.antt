@@ -1,9 +1,8 @@
-use Rattle.std.proofs.Common.{◌≡◌, ◌<◌, List, Some, None, map, length, get_or, ap, sym, ◌∙◌, arith}
+use Rattle.std.proofs.Common.{◌≡◌, ◌<◌, List, Some, None, length, get_or, ap, sym, ◌∙◌, arith}
 use Rattle.image_place.specs.View.{ViewSection}
 use Rattle.image_place.specs.Leading.{section_faults}
 use Rattle.image_place.specs.Naming.{address_found}
 use Rattle.image_place.specs.Placed.{first_fault, given}
-use Rattle.image_place.specs.RangeRows.{definition_seen}
 use Rattle.image_place.proofs.FaultLaws.{fault_here, fault_later}
 use Rattle.image_place.proofs.judging.view_fault.Goals as goal
 

@@ -1,10 +1,9 @@
-use Rattle.std.proofs.Common.{◌≡◌, map, drop}
+use Rattle.std.proofs.Common.{◌≡◌, drop}
 use Rattle.std.specs.Prelude.{flat_map}
 use Rattle.std.specs.List.{enumerate_from}
 use Rattle.image_place.specs.Leading.{section_faults, view_faults}
 use Rattle.image_place.specs.Naming.{address_found}
 use Rattle.image_place.specs.Placed.{first_fault, given}
-use Rattle.image_place.specs.RangeRows.{definition_seen}
 use Rattle.image_place.proofs.judging.view_fault.Given as goal
 
 abbrev pub invariant-loop-k : goal.invariant-loop-k

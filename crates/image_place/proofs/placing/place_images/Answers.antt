@@ -10,7 +10,6 @@ use Rattle.image_place.specs.Leading.{faults_by, numbered_faults, view_faults}
 use Rattle.image_place.specs.Applying.{HaveRanges, entry_by, numbered_entries}
 use Rattle.image_place.specs.Faults.{TellsFault}
 use Rattle.image_place.specs.Naming.{address_found}
-use Rattle.image_place.specs.RangeRows.{definition_seen}
 use Rattle.image_place.specs.Views.{placed_view}
 use Rattle.image_place.proofs.FaultLaws.{fault_later, rest_next, told_first}
 use Rattle.image_place.proofs.PlacingLaws.{flat_next}

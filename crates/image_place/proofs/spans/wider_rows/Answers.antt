@@ -1,4 +1,4 @@
-use Rattle.std.proofs.Common.{◌≡◌, ◌+◌, List, ℕ, sym, subst}
+use Rattle.std.proofs.Common.{◌+◌, List, ℕ, sym, subst}
 use Rattle.image_place.specs.Spanning.{AreWider}
 use Rattle.image_place.proofs.SpanLaws.{wider_more}
 use Rattle.image_place.proofs.spans.wider_rows.Goals as goal

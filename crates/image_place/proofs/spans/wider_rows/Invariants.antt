@@ -1,4 +1,3 @@
-use Rattle.std.proofs.Common.{◌≡◌}
 use Rattle.image_place.specs.Spanning.{AreWider}
 use Rattle.image_place.proofs.spans.wider_rows.Given as goal
 

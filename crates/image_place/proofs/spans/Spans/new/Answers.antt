@@ -1,4 +1,4 @@
-use Rattle.std.proofs.Common.{rules, ◌≡◌, List, length, sym, subst}
+use Rattle.std.proofs.Common.{rules, List, length, subst}
 use Rattle.std.proofs.lemmas.List.Sorted.{IsNonDecreasingBy-from_sort_by_key}
 use Rattle.image_place.specs.Spanning.{Span, AreWider}
 use Rattle.image_place.proofs.spans.Spans.new.Goals as goal
