@@ -5,10 +5,10 @@ use Rattle.std.specs.List.{enumerate_from}
 use Rattle.std.specs.Option.{option_or}
 use Rattle.ir_core.specs.Moments.{moments}
 use Rattle.image_place.specs.declared.rows.DefAddress.{DefAddress as AddressRow}
-use Rattle.image_place.specs.declared.view.ViewReloc.{ViewReloc}
+use Rattle.image_view.specs.declared.view.ViewReloc.{ViewReloc}
 use Rattle.image_place.specs.declared.fault.PlaceFault.{PlaceFault}
 use Rattle.image_place.specs.declared.fault.PlaceFault.TheVariants.{OtherKind}
-use Rattle.image_place.specs.View.{View, ViewSection}
+use Rattle.image_view.specs.View.{View, ViewSection}
 use Rattle.image_place.specs.Placed.{first_fault, fault_if, reloc_fault, image_faults, all_pieces, all_definitions, twice_fault, address_fault, place_fault}
 use Rattle.image_place.proofs.EntryLaws.{fault_left, fault_right, fault_map, enumerated, false_if}
 

@@ -5,7 +5,8 @@ use Rattle.std.specs.List.{filter_map}
 use Rattle.byte_core.specs.Number.{little_bytes}
 use Rattle.byte_core.proofs.Numbers.{length-little_bytes}
 use Rattle.image_place.specs.Fixups.{FixKind, Goal, own, named, Patch, Resolved, patch_of, with_patch, with_patches, value_bytes, fixed, each_some}
-use Rattle.image_place.specs.View.{View, ViewReloc}
+use Rattle.image_view.specs.View.{View}
+use Rattle.image_view.specs.declared.view.ViewReloc.{ViewReloc}
 use Rattle.image_place.specs.Placed.{Definition, fixup_at, holds_field, row_goal}
 use Rattle.image_place.specs.Leading.{Binding, led, led_name}
 use Rattle.image_place.specs.declared.leading.Led.TheVariants.{Loose, Unbound, At}

@@ -9,7 +9,8 @@ use Rattle.std.proofs.lemmas.Bool.{ne_eqb}
 use Rattle.ir_core.specs.Moments.{moments}
 use Rattle.byte_core.specs.Number.{bytes_at}
 use Rattle.image_place.specs.Fixups.{FixKind, Goal, own, named, Fixup, Piece, bound, outside, exporters_from, address_of, resolved, value_bytes, fixed, memory_of}
-use Rattle.image_place.specs.View.{View, ViewReloc, ViewSection}
+use Rattle.image_view.specs.View.{View, ViewSection}
+use Rattle.image_view.specs.declared.view.ViewReloc.{ViewReloc}
 use Rattle.image_place.specs.Placed.{AddressRow, Definition, definitions_in, given, fixup_at, holds_field, row_goal, piece_in, view_pieces, all_pieces, entry_of, PlacedEntry, placed_entries, PlaceFault, first_fault, fault_if, other_kind, no_address, does_not_fit, goal_fault, is_too_far, holders, reloc_fault, image_faults, twice_fault, address_fault, all_definitions, place_fault}
 use Rattle.image_place.specs.Leading.{Binding, led, led_name, holds_it, is_far, led_fault, kind_fault, fault_by, section_faults, numbered_faults, faults_by}
 use Rattle.image_place.specs.Applying.{goal_address, resolved_by, bytes_by, entry_by, numbered_entries, entries_by}

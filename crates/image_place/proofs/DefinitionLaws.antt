@@ -5,9 +5,9 @@ use Rattle.std.specs.List.{enumerate_from}
 use Rattle.std.proofs.lemmas.List.{take_more, take_all, length-take-le, get_or-map}
 use Rattle.std.proofs.lemmas.List.Elements.{filter-append}
 use Rattle.std.proofs.lemmas.Grind.{flat_map-append}
-use Rattle.image_place.specs.View.{View, ViewSymbol}
-use Rattle.image_place.specs.ViewRows.{symbol_seen}
-use Rattle.image_place.specs.declared.view.ViewSymbol.{ViewSymbol as Row}
+use Rattle.image_view.specs.View.{View, ViewSymbol}
+use Rattle.image_view.specs.ViewRows.{symbol_seen}
+use Rattle.image_view.specs.declared.view.ViewSymbol.{ViewSymbol as Row}
 use Rattle.image_place.specs.Placed.{At, symbols_at, all_definitions}
 use Rattle.image_place.specs.DefinitionRows.{is_found, found_if}
 

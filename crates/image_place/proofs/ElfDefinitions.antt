@@ -23,7 +23,7 @@ use Rattle.cranelift_object.specs.Targets.{identifier, label, target_of}
 use Rattle.cranelift_object.specs.Linked.{identifier_symbol, symbols_of, object_of, row_of, named_symbol}
 use Rattle.cranelift_object.proofs.ShownLaws.{Standing, Fits, identifier_at, identifier_number, identifier_stands}
 use Rattle.cranelift_object.proofs.StateSound.{MayDefine}
-use Rattle.image_place.specs.View.{ViewSymbol, elf_place}
+use Rattle.image_view.specs.View.{ViewSymbol, elf_place}
 use Rattle.image_place.specs.declared.rows.DefAddress.{DefAddress as AddressRow}
 use Rattle.image_place.specs.Placed.{Definition, definitions_in, given, address_in, row_for}
 use Rattle.image_place.proofs.EntryLaws.{Among}

@@ -26,7 +26,7 @@ use Rattle.cranelift_object.proofs.ShownLaws.{Fits}
 use Rattle.image_place.specs.Fixups.{Goal, own, named}
 use Rattle.image_place.specs.Memory.{declared_name, goal_of, known_text}
 use Rattle.image_place.specs.Shown.{GoalShows}
-use Rattle.image_place.specs.View.{View, ViewSymbol}
+use Rattle.image_view.specs.View.{View, ViewSymbol}
 use Rattle.image_place.specs.declared.rows.DefAddress.{DefAddress as AddressRow}
 use Rattle.image_place.specs.Placed.{Definition, definitions_in, given, row_goal, symbol_goal, holds}
 use Rattle.image_place.proofs.Collected.{found-at, found-some}

@@ -28,12 +28,13 @@ use Rattle.image_place.specs.Fixups.{Addresses}
 use Rattle.image_place.specs.Laws.{HaveRows, HaveInnerLabels, AreElf}
 use Rattle.image_place.specs.Memory.{part_pieces}
 use Rattle.image_place.specs.ObjectFile.{part_object, definition_row, symbol_row_by, IsFileOf}
-use Rattle.image_place.specs.Placed.{given, view_pieces, IsViewed}
+use Rattle.image_place.specs.Placed.{given, view_pieces}
+use Rattle.image_view.specs.Viewed.{IsViewed}
 use Rattle.image_place.specs.Related.{IsPart}
 use Rattle.image_place.specs.Shown.{ObjectShows}
-use Rattle.image_place.specs.View.{View, view_of}
+use Rattle.image_view.specs.View.{View, view_of}
 use Rattle.image_place.proofs.SoundLaws.{definitions-once}
-use Rattle.image_place.proofs.ViewedLaws.{is_viewed, one_view}
+use Rattle.image_view.proofs.ViewedLaws.{is_viewed, one_view}
 use Rattle.image_place.proofs.Accepted.{part-free, definition-accepted, function-local, data-local}
 use Rattle.image_place.proofs.Applied.{AreApplied}
 use Rattle.image_place.proofs.FileSymbols.{IsSettled}

@@ -31,14 +31,14 @@ use Rattle.cranelift_object.proofs.ClassLaws.{All-slice_get}
 use Rattle.cranelift_object.proofs.FormedLaws.{IsGood, good_relocs, field_bytes}
 use Rattle.cranelift_object.proofs.SectionLaws.{contents_length}
 use Rattle.cranelift_object.proofs.ShownLaws.{identifier_at, identifier_number}
-use Rattle.image_place.specs.declared.kind.FixKind.{FixKind}
-use Rattle.image_place.specs.declared.view.ViewReloc.{ViewReloc}
+use Rattle.image_view.specs.declared.kind.FixKind.{FixKind}
+use Rattle.image_view.specs.declared.view.ViewReloc.{ViewReloc}
 use Rattle.image_place.specs.declared.rows.DefAddress.{DefAddress as AddressRow}
 use Rattle.image_place.specs.Fixups.{Piece}
 use Rattle.image_place.specs.Memory.{declared_linkage, is_seen, fix_kind, goal_of, fixup_of, piece_of, pieces_of}
 use Rattle.image_place.specs.Shares.{Pairs}
 use Rattle.image_place.specs.Shown.{FixupShows, PieceShows, ObjectShows}
-use Rattle.image_place.specs.View.{ViewSymbol, ViewSection, elf_kind, elf_view_reloc}
+use Rattle.image_view.specs.View.{ViewSymbol, ViewSection, elf_kind, elf_view_reloc}
 use Rattle.image_place.specs.Placed.{Definition, definitions_in, given, fixup_at, holds_field, piece_in, view_pieces}
 use Rattle.image_place.proofs.KindLaws.{elf-kinds}
 use Rattle.image_place.proofs.RangeLaws.{moved, moved_all, FieldsInside, StandFrom, own_relocations}

@@ -29,7 +29,7 @@ use Rattle.cranelift_object.specs.Placing.{Placed, placed, sections_used}
 use Rattle.cranelift_object.specs.Linked.{members, piece_of, stored_of, section_with, sections_of, is_unstored_class, object_of}
 use Rattle.cranelift_object.proofs.ClassLaws.{IsShareable, shareable, placed_class, placed_definitions, All-slice_get}
 use Rattle.cranelift_object.proofs.SectionLaws.{contents_length}
-use Rattle.image_place.specs.View.{ViewSection, elf_view, elf_view_section, filled}
+use Rattle.image_view.specs.View.{ViewSection, elf_view, elf_view_section, filled}
 use Rattle.image_place.proofs.EntryLaws.{enumerated}
 use Rattle.image_place.proofs.FileStanding.{member-into, member-bytes, member-end, room-over, zeros-at}
 use Rattle.image_place.proofs.ElfSymbols.{elf_shown, section_count}

@@ -18,7 +18,7 @@ use Rattle.cranelift_object.specs.Placing.{Placed}
 use Rattle.cranelift_object.specs.Linked.{named_symbol}
 use Rattle.cranelift_object.proofs.ShownLaws.{is_of_identifier, symbol_row_get}
 use Rattle.image_place.specs.Memory.{is_seen}
-use Rattle.image_place.specs.View.{View, ViewSymbol, elf_place, elf_view_symbol, null_symbol, elf_view}
+use Rattle.image_view.specs.View.{View, ViewSymbol, elf_place, elf_view_symbol, null_symbol, elf_view}
 use Rattle.image_place.proofs.FileRows.{row-from, row-behind}
 use Rattle.image_place.proofs.FileSymbols.{is_label_kind}
 

@@ -5,7 +5,7 @@ use Rattle.std.specs.List.{filter_map, cons_option, enumerate_from}
 use Rattle.std.specs.HashMap.{HashMap}
 use Rattle.std.proofs.lemmas.List.{take_all, length-take-le}
 use Rattle.image_place.specs.Fixups.{Piece, Addresses, exported_as, exporters_from}
-use Rattle.image_place.specs.View.{View, ViewSection}
+use Rattle.image_view.specs.View.{View, ViewSection}
 use Rattle.image_place.specs.Placed.{AddressRow, Definition, piece_in, view_pieces, all_pieces, definitions_in, given}
 use Rattle.image_place.specs.Naming.{told_all, Exports, export_by, NotesAll}
 use Rattle.image_place.proofs.DefinitionLaws.{enumerate_more, map_append, long_map}

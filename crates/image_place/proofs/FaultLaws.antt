@@ -4,7 +4,7 @@ use Rattle.std.proofs.lemmas.List.{drop_all}
 use Rattle.std.specs.Prelude.{Option, flat_map}
 use Rattle.std.specs.List.{enumerate_from}
 use Rattle.std.specs.Option.{option_or}
-use Rattle.image_place.specs.View.{View}
+use Rattle.image_view.specs.View.{View}
 use Rattle.image_place.specs.Placed.{AddressRow, PlaceFault, defined_twice, no_address, other_kind, loose_label, does_not_fit, first_fault, image_faults, place_fault, AreViewed}
 use Rattle.image_place.specs.Faults.{fault_told, TellsFault, definition_faults}
 use Rattle.image_place.specs.Views.{TellsPlace}

@@ -13,10 +13,11 @@ use Rattle.image_place.specs.Fixups.{Addresses}
 use Rattle.image_place.specs.Laws.{HaveRows, HaveInnerLabels, AreElf, AreMacho, PlacedIsMemory}
 use Rattle.image_place.specs.Memory.{part_pieces}
 use Rattle.image_place.specs.ObjectFile.{definition_row, IsFileOf}
-use Rattle.image_place.specs.Placed.{PlacedEntry, Placed, AreOfBytes, given, view_pieces, IsViewed}
+use Rattle.image_place.specs.Placed.{PlacedEntry, Placed, AreOfBytes, given, view_pieces}
+use Rattle.image_view.specs.Viewed.{IsViewed}
 use Rattle.image_place.specs.Related.{IsPart}
 use Rattle.image_place.specs.Shown.{ObjectShows}
-use Rattle.image_place.specs.View.{View}
+use Rattle.image_view.specs.View.{View}
 use Rattle.image_place.proofs.Accepted.{part-started}
 use Rattle.image_place.proofs.Applied.{AreApplied, views-applied}
 use Rattle.image_place.proofs.MemoryLaw.{AreShown, placed-is-memory}

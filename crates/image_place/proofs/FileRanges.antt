@@ -8,8 +8,8 @@ use Rattle.ir_core.specs.Kind.{field_width}
 use Rattle.cranelift_module.specs.declared.reloc.ModuleReloc.{ModuleReloc}
 use Rattle.cranelift_module.specs.LinkState.{LinkState}
 use Rattle.cranelift_object.specs.Settings.{Settings}
-use Rattle.image_place.specs.declared.kind.FixKind.{FixKind}
-use Rattle.image_place.specs.declared.kind.FixKind.TheVariants.{Absolute8, Absolute4, Relative4}
+use Rattle.image_view.specs.declared.kind.FixKind.{FixKind}
+use Rattle.image_view.specs.declared.kind.FixKind.TheVariants.{Absolute8, Absolute4, Relative4}
 use Rattle.image_place.specs.Fixups.{fix_width, Patch}
 use Rattle.image_place.specs.Memory.{fix_kind, fixup_of}
 use Rattle.image_place.specs.Shares.{Pairs}

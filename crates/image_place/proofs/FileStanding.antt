@@ -15,7 +15,7 @@ use Rattle.cranelift_object.specs.Settings.{Settings}
 use Rattle.cranelift_object.specs.Placing.{Placed, placed, extent_of, room_of, align_of}
 use Rattle.cranelift_object.specs.Linked.{members, stored_of, piece_of}
 use Rattle.cranelift_object.proofs.SectionLaws.{stored_length}
-use Rattle.image_place.specs.declared.view.ViewReloc.{ViewReloc}
+use Rattle.image_view.specs.declared.view.ViewReloc.{ViewReloc}
 use Rattle.image_place.proofs.EntryLaws.{Among, filtered}
 use Rattle.image_place.proofs.RangeLaws.{Standing, FieldsInside, StandFrom}
 use Rattle.image_place.proofs.StandingLaws.{Ascend, Holds, over, members-ascend, joined-holds}

@@ -7,7 +7,8 @@ use Rattle.std.proofs.lemmas.List.Elements.{filter_more}
 use Rattle.std.proofs.lemmas.List.{take_all, map-append}
 use Rattle.byte_core.proofs.Lists.{get_append, item_get}
 use Rattle.image_place.specs.Fixups.{FixKind, fix_width}
-use Rattle.image_place.specs.View.{View, ViewReloc, ViewSection}
+use Rattle.image_view.specs.View.{View, ViewSection}
+use Rattle.image_view.specs.declared.view.ViewReloc.{ViewReloc}
 use Rattle.image_place.specs.Placed.{Definition, holds, holds_field}
 use Rattle.image_place.specs.Spanning.{Span, covers, IsHolder}
 use Rattle.image_place.specs.Indexed.{AreIndexed, line_place, span_of}

@@ -4,7 +4,7 @@ use Rattle.std.specs.Prelude.{◌&&◌, ◌||◌, nat_le}
 use Rattle.std.specs.List.{list_any}
 use Rattle.std.proofs.lemmas.Bool.{and_right}
 use Rattle.image_place.specs.Fixups.{FixKind, fix_width}
-use Rattle.image_place.specs.View.{ViewReloc}
+use Rattle.image_view.specs.declared.view.ViewReloc.{ViewReloc}
 use Rattle.image_place.specs.Placed.{Definition, holds}
 use Rattle.image_place.specs.Leading.{holds_it, is_far}
 use Rattle.image_place.specs.Spanning.{Span, IsHolder}

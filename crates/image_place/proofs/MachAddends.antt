@@ -22,10 +22,10 @@ use Rattle.object_macho.specs.AddendLaw.{KeepsAddends}
 use Rattle.object_macho.proofs.Behind.{length-stored_contents}
 use Rattle.object_macho.proofs.Patching.{first_value, stored_here, stored_outside, stored_elsewhere, stored_at, part_is}
 use Rattle.cranelift_object.specs.Linked.{relocation_flags}
-use Rattle.image_place.specs.declared.kind.FixKind.{FixKind}
-use Rattle.image_place.specs.declared.kind.FixKind.TheVariants.{Absolute8 as absolute8, Absolute4 as absolute4, Relative4 as relative4}
+use Rattle.image_view.specs.declared.kind.FixKind.{FixKind}
+use Rattle.image_view.specs.declared.kind.FixKind.TheVariants.{Absolute8 as absolute8, Absolute4 as absolute4, Relative4 as relative4}
 use Rattle.image_place.specs.Memory.{fix_kind}
-use Rattle.image_place.specs.View.{field_number, field_addend}
+use Rattle.image_view.specs.View.{field_number, field_addend}
 use Rattle.image_place.proofs.PatchLaws.{relative-addend, absolute-addend}
 
 -- -- bytes

@@ -22,15 +22,15 @@ use Rattle.cranelift_object.specs.Targets.{target_of}
 use Rattle.cranelift_object.specs.Linked.{object_of, row_of, relocations_of, object_relocation, relocation_flags, members}
 use Rattle.cranelift_object.proofs.ClassLaws.{All-slice_get}
 use Rattle.cranelift_object.proofs.FormedLaws.{IsGood, good_relocs, field_bytes}
-use Rattle.image_place.specs.declared.kind.FixKind.{FixKind}
-use Rattle.image_place.specs.declared.kind.FixKind.TheVariants.{Absolute8, Absolute4, Relative4}
-use Rattle.image_place.specs.declared.view.ViewReloc.{ViewReloc}
+use Rattle.image_view.specs.declared.kind.FixKind.{FixKind}
+use Rattle.image_view.specs.declared.kind.FixKind.TheVariants.{Absolute8, Absolute4, Relative4}
+use Rattle.image_view.specs.declared.view.ViewReloc.{ViewReloc}
 use Rattle.image_place.specs.declared.rows.DefAddress.{DefAddress as AddressRow}
 use Rattle.image_place.specs.Fixups.{fix_width, Patch}
 use Rattle.image_place.specs.Memory.{fix_kind, fixup_of}
 use Rattle.image_place.specs.Shares.{Pairs}
 use Rattle.image_place.specs.Shown.{HasField, Outside}
-use Rattle.image_place.specs.View.{ViewSection, mach_kind}
+use Rattle.image_view.specs.View.{ViewSection, mach_kind}
 use Rattle.image_place.proofs.RangeLaws.{moved, moved_all, FieldsInside}
 use Rattle.image_place.proofs.Applied.{AreApplied}
 use Rattle.image_place.proofs.FileRanges.{width-kept, LieIn}

@@ -28,7 +28,7 @@ use Rattle.image_place.specs.Fixups.{Patch}
 use Rattle.image_place.specs.Memory.{fixup_of}
 use Rattle.image_place.specs.Shares.{Pairs}
 use Rattle.image_place.specs.Shown.{HasField, Outside, AgreesOutside}
-use Rattle.image_place.specs.View.{filled}
+use Rattle.image_view.specs.View.{filled}
 use Rattle.image_place.proofs.Applied.{AreApplied}
 use Rattle.image_place.proofs.FileSymbols.{placed-from}
 use Rattle.image_place.proofs.FileStanding.{member-into, room-over, member-bytes, member-end, zeros-at}

@@ -17,7 +17,7 @@ use Rattle.cranelift_object.specs.Placing.{Placed, placed}
 use Rattle.cranelift_object.specs.Targets.{RelocationTarget, identifier, library, known, label}
 use Rattle.cranelift_object.specs.Linked.{identifier_symbol, extra_symbol, symbols_of, object_of, row_of, named_symbol}
 use Rattle.cranelift_object.proofs.ShownLaws.{Standing, is_of_identifier, identifier_at, identifier_number}
-use Rattle.image_place.specs.View.{ViewSymbol, is_label_name}
+use Rattle.image_view.specs.View.{ViewSymbol, is_label_name}
 use Rattle.image_place.specs.declared.rows.DefAddress.{DefAddress as AddressRow}
 use Rattle.image_place.specs.Placed.{Definition, definitions_in, given, address_in as address_of_row, row_for}
 use Rattle.image_place.proofs.EntryLaws.{Among}

@@ -25,7 +25,7 @@ use Rattle.object_core.specs.declared.kinds.SymbolKind.TheVariants as kind
 use Rattle.image_place.specs.Fixups.{Goal, own, named}
 use Rattle.image_place.specs.Memory.{declared_name, goal_of, known_text}
 use Rattle.image_place.specs.Shown.{GoalShows}
-use Rattle.image_place.specs.View.{ViewSymbol, plain_name}
+use Rattle.image_view.specs.View.{ViewSymbol, plain_name}
 use Rattle.image_place.specs.declared.rows.DefAddress.{DefAddress as AddressRow}
 use Rattle.image_place.specs.Placed.{Definition, definitions_in, given, row_goal, symbol_goal, holds}
 use Rattle.image_place.proofs.Collected.{found-at, found-some}

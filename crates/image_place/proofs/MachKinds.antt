@@ -11,7 +11,7 @@ use Rattle.object_core.specs.declared.relocation.Relocation.{Relocation}
 use Rattle.object_macho.specs.Layout.{record_for}
 use Rattle.cranelift_object.specs.Linked.{relocation_flags}
 use Rattle.image_place.specs.Memory.{fix_kind}
-use Rattle.image_place.specs.View.{mach_kind}
+use Rattle.image_view.specs.View.{mach_kind}
 
 -- the record of a relocation is of the kind that is applied, if one is
 pub mach-kinds : (kind : Reloc) (symbols : List SymbolData) (r : Relocation) → r.flags ≡ relocation_flags Macho X86_64 kind → mach_kind (record_for (mach_relocation symbols r)) ≡ fix_kind Macho kind

@@ -14,13 +14,13 @@ use Rattle.cranelift_object.specs.Placing.{placed}
 use Rattle.cranelift_object.specs.Targets.{target_of}
 use Rattle.cranelift_object.specs.Linked.{object_of, row_of, members}
 use Rattle.cranelift_object.proofs.ShownLaws.{identifier_at, identifier_number}
-use Rattle.image_place.specs.declared.view.ViewReloc.{ViewReloc}
+use Rattle.image_view.specs.declared.view.ViewReloc.{ViewReloc}
 use Rattle.image_place.specs.declared.rows.DefAddress.{DefAddress as AddressRow}
 use Rattle.image_place.specs.Fixups.{Piece}
 use Rattle.image_place.specs.Memory.{declared_linkage, is_seen, fix_kind, goal_of, fixup_of, piece_of, pieces_of}
 use Rattle.image_place.specs.Shares.{Pairs}
 use Rattle.image_place.specs.Shown.{FixupShows, PieceShows, ObjectShows, AgreesOutside}
-use Rattle.image_place.specs.View.{ViewSymbol}
+use Rattle.image_view.specs.View.{ViewSymbol}
 use Rattle.image_place.specs.Placed.{Definition, definitions_in, given, fixup_at, holds_field, piece_in, view_pieces}
 use Rattle.image_place.proofs.RangeLaws.{moved, StandFrom, own_relocations}
 use Rattle.image_place.proofs.Showing.{IsShownOf, IsUnder, object-shows}

@@ -20,10 +20,10 @@ use Rattle.object_macho.proofs.Behind.{length-stored_contents}
 use Rattle.object_macho.proofs.Moments.{moment_at}
 use Rattle.object_macho.proofs.Orders.{section_holds}
 use Rattle.cranelift_object.specs.Linked.{relocation_flags}
-use Rattle.image_place.specs.declared.kind.FixKind.{FixKind}
-use Rattle.image_place.specs.declared.view.ViewReloc.{ViewReloc}
+use Rattle.image_view.specs.declared.kind.FixKind.{FixKind}
+use Rattle.image_view.specs.declared.view.ViewReloc.{ViewReloc}
 use Rattle.image_place.specs.Memory.{fix_kind}
-use Rattle.image_place.specs.View.{ViewSection, filled, mach_kind, field_addend, mach_view_reloc, mach_view_section, mach_view}
+use Rattle.image_view.specs.View.{ViewSection, filled, mach_kind, field_addend, mach_view_reloc, mach_view_section, mach_view}
 use Rattle.image_place.proofs.MachKinds.{mach-kinds}
 use Rattle.image_place.proofs.MachAddends.{field-bytes, byte-kept, applied-form, addend-back}
 use Rattle.image_place.proofs.MachSymbols.{mach_shown}

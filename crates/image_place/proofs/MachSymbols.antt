@@ -22,7 +22,7 @@ use Rattle.cranelift_object.specs.Placing.{Placed}
 use Rattle.cranelift_object.specs.Linked.{named_symbol}
 use Rattle.cranelift_object.proofs.ShownLaws.{is_of_identifier}
 use Rattle.image_place.specs.Memory.{is_seen}
-use Rattle.image_place.specs.View.{View, ViewSymbol, mach_view_symbol, mach_view, is_label_name}
+use Rattle.image_view.specs.View.{View, ViewSymbol, mach_view_symbol, mach_view, is_label_name}
 use Rattle.image_place.proofs.FileSymbols.{is_label_kind}
 use Rattle.image_place.proofs.MachRows.{mach-row-from}
 

@@ -15,7 +15,7 @@ use Rattle.image_place.specs.declared.rows.DefAddress.{DefAddress as AddressRow}
 use Rattle.image_place.specs.Fixups.{Piece, Addresses, memory_of}
 use Rattle.image_place.specs.Memory.{piece_of, pieces_of, part_pieces, piece_named, memory}
 use Rattle.image_place.specs.ObjectFile.{definition_row}
-use Rattle.image_place.specs.View.{View}
+use Rattle.image_view.specs.View.{View}
 use Rattle.image_place.specs.Placed.{PlacedEntry, view_pieces, all_pieces, given, placed_entries, place_fault}
 use Rattle.image_place.specs.Shown.{ObjectShows, ObjectsShow}
 use Rattle.image_place.specs.Laws.{AreFilesOf, HasEntry}

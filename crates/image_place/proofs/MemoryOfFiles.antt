@@ -5,7 +5,7 @@ use Rattle.image_place.specs.declared.rows.DefAddress.{DefAddress as AddressRow}
 use Rattle.image_place.specs.declared.rows.PlacedBytes.{PlacedBytes}
 use Rattle.image_place.specs.Laws.{PlacedIsMemory}
 use Rattle.image_place.specs.Placed.{AreOfBytes, AreViewed, place_fault, placed_entries}
-use Rattle.image_place.specs.View.{View}
+use Rattle.image_view.specs.View.{View}
 use Rattle.image_place.specs.Views.{placed_view}
 use Rattle.image_place.proofs.FileFormats.{placed-by-formats}
 use Rattle.image_place.proofs.MachFormed.{mach-files-show}

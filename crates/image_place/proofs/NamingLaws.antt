@@ -7,7 +7,7 @@ use Rattle.std.specs.HashMap.{HashMap}
 use Rattle.std.proofs.lemmas.List.{map_more}
 use Rattle.std.proofs.lemmas.Slice.Eq.{bytes_eq-Decides}
 use Rattle.image_place.specs.Fixups.{outside, bound_by}
-use Rattle.image_place.specs.View.{View}
+use Rattle.image_view.specs.View.{View}
 use Rattle.image_place.specs.Placed.{Definition}
 use Rattle.image_place.specs.Views.{extern_view}
 use Rattle.image_place.specs.RangeRows.{definition_seen, one_or_none}

@@ -22,7 +22,7 @@ use Rattle.object_elf.specs.TableImage.{section_shown as elf_section_for, symbol
 use Rattle.image_read.specs.ElfImage.{ElfImageData}
 use Rattle.image_place.specs.Fixups.{absolute8, relative4, own, named}
 use Rattle.image_place.specs.Memory.{pieces_of, part_pieces}
-use Rattle.image_place.specs.View.{View, elf_view}
+use Rattle.image_view.specs.View.{View, elf_view}
 use Rattle.image_place.specs.Placed.{AddressRow, definitions_in, view_pieces}
 use Rattle.image_place.specs.ObjectFile.{part_object, definition_row}
 use Rattle.image_place.proofs.PartExamples.{part, plain}

@@ -5,7 +5,7 @@ use Rattle.std.specs.List.{filter_map, enumerate_from}
 use Rattle.std.proofs.lemmas.List.{take_all, map_more, take_more, get_or-map}
 use Rattle.std.proofs.lemmas.Grind.{flat_map-append}
 use Rattle.image_place.specs.RangeRows.{definition_seen, one_or_none}
-use Rattle.image_place.specs.View.{View, ViewSection}
+use Rattle.image_view.specs.View.{View, ViewSection}
 use Rattle.image_place.specs.Placed.{Definition, PlacedEntry}
 use Rattle.image_place.specs.Leading.{Binding}
 use Rattle.image_place.specs.Applying.{bytes_by, entry_by}

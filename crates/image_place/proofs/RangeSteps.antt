@@ -3,9 +3,9 @@ use Rattle.std.proofs.Common.{◌≡◌, ℕ, ◌+◌, ◌<◌, List, [], ◌∷
 use Rattle.std.specs.Prelude.{Option}
 use Rattle.std.specs.List.{filter_map, cons_option, enumerate_from}
 use Rattle.std.proofs.lemmas.List.{get_or-map}
-use Rattle.image_place.specs.View.{ViewSymbol}
-use Rattle.image_place.specs.ViewRows.{symbol_seen}
-use Rattle.image_place.specs.declared.view.ViewSymbol.{ViewSymbol as Row}
+use Rattle.image_view.specs.View.{ViewSymbol}
+use Rattle.image_view.specs.ViewRows.{symbol_seen}
+use Rattle.image_view.specs.declared.view.ViewSymbol.{ViewSymbol as Row}
 use Rattle.image_place.specs.Placed.{AddressRow, Definition, definition_at, row_for}
 use Rattle.image_place.specs.RangeRows.{one_or_none}
 use Rattle.image_place.proofs.DefinitionLaws.{enumerate_more, long_map}

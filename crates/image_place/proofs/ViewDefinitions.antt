@@ -3,7 +3,7 @@ use Rattle.std.proofs.Common.{◌≡◌, ℕ, ◌+◌, List, refl, ap, sym, ◌�
 use Rattle.std.specs.Prelude.{option_map, if◌then◌else◌}
 use Rattle.std.specs.List.{enumerate_from}
 use Rattle.image_place.specs.Fixups.{Piece}
-use Rattle.image_place.specs.View.{View, ViewSymbol, ViewSection}
+use Rattle.image_view.specs.View.{View, ViewSymbol, ViewSection}
 use Rattle.image_place.specs.declared.rows.DefAddress.{DefAddress as AddressRow}
 use Rattle.image_place.specs.Placed.{Definition, definition_at, definitions_in, row_for, piece_in, view_pieces}
 use Rattle.image_place.proofs.EntryLaws.{Among, enumerated}

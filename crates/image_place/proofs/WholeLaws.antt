@@ -14,8 +14,9 @@ use Rattle.image_read.specs.MachImage.{MachImageData, MachSectionData, MachReads
 use Rattle.image_read.specs.Image.{Reads}
 use Rattle.image_read.specs.declared.image.Image.{Image}
 use Rattle.image_read.specs.declared.image.Image.TheVariants.{Elf, Mach, Fat}
-use Rattle.image_place.specs.View.{View, ViewSymbol, ViewSection, filled, elf_view, elf_view_section, mach_view, mach_view_section, view_of}
-use Rattle.image_place.specs.Placed.{AddressRow, At, Definition, definition_at, definitions_in, row_for, symbols_at, all_definitions, PlaceFault, first_fault, address_fault, is_homeless, leaves, section_of, is_definition, no_address, IsViewed, AreViewed}
+use Rattle.image_view.specs.View.{View, ViewSymbol, ViewSection, filled, elf_view, elf_view_section, mach_view, mach_view_section, view_of}
+use Rattle.image_place.specs.Placed.{AddressRow, At, Definition, definition_at, definitions_in, row_for, symbols_at, all_definitions, PlaceFault, first_fault, address_fault, is_homeless, leaves, section_of, is_definition, no_address, AreViewed}
+use Rattle.image_view.specs.Viewed.{IsViewed}
 use Rattle.image_place.specs.Applying.{HasRange, IsHome, AllHaveRanges, IsWhole, AreWhole}
 use Rattle.image_place.proofs.DefinitionLaws.{map_append}
 use Rattle.image_place.proofs.EntryLaws.{fault_left, fault_right, fault_map, enumerated, filtered, false_if}

@@ -3,7 +3,8 @@ use Rattle.std.specs.Prelude.{◌≡◌, ℕ, ◌+◌, ◌-◌, ◌≤◌, Bool,
 use Rattle.std.specs.List.{filter_map, enumerate_from}
 use Rattle.byte_core.specs.Number.{bytes_at}
 use Rattle.image_place.specs.Fixups.{Goal, own, named, Fixup, Resolved, fixed}
-use Rattle.image_place.specs.View.{View, ViewReloc, ViewSection}
+use Rattle.image_view.specs.View.{View, ViewSection}
+use Rattle.image_view.specs.declared.view.ViewReloc.{ViewReloc}
 use Rattle.image_place.specs.Placed.{AddressRow, Definition, definitions_in, given, fixup_at, holds_field, PlacedEntry}
 use Rattle.image_place.specs.Leading.{Binding}
 

@@ -1,7 +1,7 @@
 -- What the definitions see of definitions that are found.
 use Rattle.std.specs.Prelude.{ℕ, Bool, List, [], ◌∷◌, if◌then◌else◌}
-use Rattle.image_place.specs.View.{ViewSymbol}
-use Rattle.image_place.specs.ViewRows.{symbol_seen}
+use Rattle.image_view.specs.View.{ViewSymbol}
+use Rattle.image_view.specs.ViewRows.{symbol_seen}
 use Rattle.image_place.specs.Placed.{At, is_definition}
 use Rattle.image_place.specs.declared.definitions.Found.{Found}
 

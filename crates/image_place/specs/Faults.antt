@@ -1,7 +1,7 @@
 -- The fault that an error tells.
 use Rattle.std.specs.Prelude.{◌≡◌, List, ◌++◌, map, Option, Some, None}
 use Rattle.ir_core.specs.Moments.{moments}
-use Rattle.image_place.specs.View.{View}
+use Rattle.image_view.specs.View.{View}
 use Rattle.image_place.specs.Placed.{AddressRow, PlaceFault, defined_twice, no_address, other_kind, loose_label, does_not_fit, twice_fault, address_fault, all_definitions}
 use Rattle.image_place.specs.declared.error.PlaceError.{PlaceError}
 use Rattle.image_place.specs.declared.error.PlaceError.TheVariants as errors

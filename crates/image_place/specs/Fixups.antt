@@ -3,8 +3,8 @@
 use Rattle.std.specs.Prelude.{ℕ, ◌+◌, ◌-◌, ◌^◌, ◌&&◌, nat_lt, ℤ, pos, negsuc, ◌+ℤ◌, ◌-ℤ◌, Bool, false, List, [], ◌∷◌, ◌++◌, take, drop, length, map, find, Option, Some, None, option_map, option_and_then, bytes_eq, if◌then◌else◌}
 use Rattle.std.specs.List.{filter_map}
 use Rattle.byte_core.specs.Number.{little_bytes}
-pub use Rattle.image_place.specs.declared.kind.FixKind.{FixKind}
-pub use Rattle.image_place.specs.declared.kind.FixKind.TheVariants.{Absolute8 as absolute8, Absolute4 as absolute4, Relative4 as relative4}
+pub use Rattle.image_view.specs.declared.kind.FixKind.{FixKind}
+pub use Rattle.image_view.specs.declared.kind.FixKind.TheVariants.{Absolute8 as absolute8, Absolute4 as absolute4, Relative4 as relative4}
 
 -- the bytes of a field
 abbrev pub fix_width : FixKind → ℕ

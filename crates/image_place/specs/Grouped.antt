@@ -1,6 +1,7 @@
 -- The relocations of an image by the definitions that hold their fields.
 use Rattle.std.specs.Prelude.{◌≡◌, ◌≢◌, ℕ, ◌==◌, ◌&&◌, Bool, List, [], ◌∷◌, ◌++◌, length, filter, slice_get, Some}
-use Rattle.image_place.specs.View.{View, ViewReloc, ViewSection}
+use Rattle.image_view.specs.View.{View, ViewSection}
+use Rattle.image_view.specs.declared.view.ViewReloc.{ViewReloc}
 use Rattle.image_place.specs.Placed.{Definition, holds_field}
 
 -- the definition is of section k, which begins there, and holds the whole field

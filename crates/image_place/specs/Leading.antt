@@ -2,7 +2,8 @@
 use Rattle.std.specs.Prelude.{ℕ, ◌+◌, ◌-◌, ◌==◌, ◌<◌, ◌^◌, ◌&&◌, not, Bool, List, map, flat_map, Option, Some, None, is_some, if◌then◌else◌}
 use Rattle.std.specs.List.{list_any, enumerate_from}
 use Rattle.image_place.specs.Fixups.{FixKind, Goal, own, named, value_bytes}
-use Rattle.image_place.specs.View.{View, ViewReloc, ViewSection}
+use Rattle.image_view.specs.View.{View, ViewSection}
+use Rattle.image_view.specs.declared.view.ViewReloc.{ViewReloc}
 use Rattle.image_place.specs.Placed.{AddressRow, Definition, definitions_in, given, holds_field, row_goal, PlaceFault, other_kind, no_address, loose_label, does_not_fit}
 pub use Rattle.image_place.specs.declared.leading.Led.{Led}
 use Rattle.image_place.specs.declared.leading.Led.TheVariants.{Loose, Unbound, At}

@@ -1,9 +1,5 @@
 pub mod Fixups
 pub mod Memory
-pub mod View
-pub mod ViewRows
-pub mod SectionSeen
-pub mod ViewSeen
 pub mod Placed
 pub mod Shares
 pub mod Shown

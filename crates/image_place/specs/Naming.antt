@@ -6,7 +6,7 @@ use Rattle.std.specs.HashMap as hash
 use Rattle.std.specs.HashMap.{HashMap}
 use Rattle.std.specs.List.{filter_map}
 use Rattle.image_place.specs.Fixups.{Piece, Addresses, exporters_from, outside}
-use Rattle.image_place.specs.View.{View}
+use Rattle.image_view.specs.View.{View}
 use Rattle.image_place.specs.Placed.{Definition}
 
 -- what a map has under a name

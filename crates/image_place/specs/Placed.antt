@@ -4,10 +4,10 @@ use Rattle.std.specs.Option.{option_or}
 use Rattle.std.specs.List.{All, filter_map, enumerate_from, list_any}
 use Rattle.ir_core.specs.Moments.{Moment, moments}
 use Rattle.byte_core.specs.Number.{bytes_at}
-use Rattle.image_read.specs.Image.{Reads}
-use Rattle.image_read.specs.declared.image.Image.{Image}
 use Rattle.image_place.specs.Fixups.{FixKind, fix_width, Goal, own, named, Fixup, Piece, Addresses, bound, resolved, patch_of, memory_of}
-use Rattle.image_place.specs.View.{View, ViewSymbol, ViewReloc, ViewSection, view_of}
+use Rattle.image_view.specs.View.{View, ViewSymbol, ViewSection}
+use Rattle.image_view.specs.declared.view.ViewReloc.{ViewReloc}
+use Rattle.image_view.specs.Viewed.{IsViewed}
 -- where a definition is to stand, and how long it is: the number of its image, the row of its symbol
 pub use Rattle.image_place.specs.declared.rows.DefAddress.{DefAddress as AddressRow}
 pub use Rattle.image_place.specs.declared.fault.PlaceFault.{PlaceFault}
@@ -204,18 +204,8 @@ place_fault views addresses externs =
 
 -- -- images
 
--- the file is an x86_64 object with this view
-pub record IsViewed (b : List ℕ) (v : View) : Type 0 where
-  pub image : Image
-  pub read : Reads b image
-  pub view : view_of image ≡ Some v
-
 abbrev pub is_same_format : View → View → Bool
 is_same_format v w = if v.is_elf then w.is_elf else not w.is_elf
-
--- the file is no x86_64 object
-pub record IsNoObject (b : List ℕ) : Type 0 where
-  pub none : (v : View) → IsViewed b v → ⊥
 
 -- a view has the format of the first one
 abbrev pub fits_format : List View → View → Bool

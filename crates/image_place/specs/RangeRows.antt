@@ -1,7 +1,7 @@
 -- What the definitions see of definitions with their ranges.
 use Rattle.std.specs.Prelude.{List, [], Option}
 use Rattle.std.specs.List.{cons_option}
-use Rattle.image_place.specs.ViewRows.{symbol_seen}
+use Rattle.image_view.specs.ViewRows.{symbol_seen}
 use Rattle.image_place.specs.Placed as placed
 use Rattle.image_place.specs.declared.ranges.Definition.{Definition}
 

@@ -1,8 +1,6 @@
 -- What contracts see of the rows that placement takes and gives, and of its errors.
 use Rattle.std.specs.Prelude.{ℕ, List}
-use Rattle.image_read.specs.declared.error.ReadError.{ReadError}
-use Rattle.image_read.specs.declared.error.ReadError.TheVariants as read
-use Rattle.image_place.specs.Placed.{AddressRow, PlacedEntry, defined_twice, no_address, other_kind, loose_label, does_not_fit, IsUnread, IsFaulty, IsNoObject}
+use Rattle.image_place.specs.Placed.{AddressRow, PlacedEntry, defined_twice, no_address, other_kind, loose_label, does_not_fit, IsUnread, IsFaulty}
 use Rattle.image_place.specs.declared.rows.Extern.{Extern}
 use Rattle.image_place.specs.declared.rows.PlacedBytes.{PlacedBytes}
 use Rattle.image_place.specs.declared.error.PlaceError.{PlaceError}
@@ -29,8 +27,3 @@ abbrev pub TellsUnread : List (List ℕ) → PlaceError → Type 0
 TellsUnread files (errors.NoReading q) = IsUnread files q
 TellsUnread files errors.OutOfMemory = Unit {0}
 TellsUnread files _ = ⊥
-
--- why a file has no view
-abbrev pub ExplainsView : List ℕ → ReadError → Type 0
-ExplainsView b read.NoReading = IsNoObject b
-ExplainsView b read.OutOfMemory = Unit {0}

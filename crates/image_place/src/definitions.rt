@@ -3,11 +3,11 @@
 ghost use Rattle.std.specs.Prelude.{◌≡◌, ◌++◌, ◌∷◌, [], IfOk, IfErr, OnOk, filter, map, if◌then◌else◌};
 ghost use Rattle.image_place.specs.Placed.{all_definitions, is_definition, symbols_at};
 ghost use Rattle.image_place.specs.DefinitionRows.{found_seen, is_found, found_if};
-ghost use Rattle.image_place.specs.ViewRows.{symbol_seen};
+ghost use Rattle.image_view.specs.ViewRows.{symbol_seen};
 ghost use Rattle.image_place.specs.declared.error.PlaceError.TheVariants.{OutOfMemory};
 
 use crate::error::PlaceError;
-use crate::view::{View, ViewSymbol};
+use image_view::{View, ViewSymbol};
 use std::alloc::Global;
 
 /// A definition of an image.

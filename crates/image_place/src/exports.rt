@@ -10,7 +10,7 @@ use crate::addresses::Addresses;
 use crate::error::PlaceError;
 use crate::names::note_export;
 use crate::ranges::{Definition, definitions_in};
-use crate::view::View;
+use image_view::View;
 use std::alloc::{AllocError, Global};
 use std::collections::HashMap;
 

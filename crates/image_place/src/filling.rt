@@ -14,7 +14,7 @@ use crate::leading::Scene;
 use crate::patching::apply;
 use crate::ranges::Definition;
 use crate::rows::PlacedBytes;
-use crate::view::{ViewReloc, ViewSection};
+use image_view::{ViewReloc, ViewSection};
 use std::alloc::{AllocError, Global};
 
 /// Appends an entry for each definition of an image, by row. Each has the relocations whose field it holds.

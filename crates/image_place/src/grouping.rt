@@ -6,7 +6,7 @@ ghost use Rattle.image_place.specs.RangeRows.{definition_seen};
 
 use crate::holding::{Definitions, line_place};
 use crate::judging::width_of;
-use crate::view::{View, ViewReloc, ViewSection};
+use image_view::{View, ViewReloc, ViewSection};
 use std::alloc::{AllocError, Global};
 
 /// The relocations whose field each definition holds, in the order of the file.

@@ -8,7 +8,7 @@ use crate::addresses::Addresses;
 use crate::definitions::Found;
 use crate::fault::PlaceFault;
 use crate::rows::DefAddress;
-use crate::view::{View, ViewSection};
+use image_view::{View, ViewSection};
 
 /// The first definition without an address row, or whose range leaves its section or the memory.
 pub fn homeless_definition(

@@ -10,11 +10,10 @@ ghost use Rattle.image_place.specs.RangeRows.{definition_seen};
 
 use crate::fault::PlaceFault;
 use crate::holding::{Definitions, is_held, line_place};
-use crate::kind::FixKind;
 use crate::leading::{Led, Scene, led_to};
 use crate::ranges::Definition;
 use crate::values::value_of;
-use crate::view::{ViewReloc, ViewSection};
+use image_view::{FixKind, ViewReloc, ViewSection};
 
 /// The first refusal of the relocations of an image.
 pub fn view_fault(scene: Scene<'_>) -> Option<PlaceFault>

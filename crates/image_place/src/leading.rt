@@ -4,13 +4,13 @@ ghost use Rattle.std.specs.Prelude.{◌≡◌};
 ghost use Rattle.image_place.specs.Leading.{led, led_name};
 ghost use Rattle.image_place.specs.Naming.{address_found};
 ghost use Rattle.image_place.specs.Placed.{given, row_goal, symbol_goal};
-ghost use Rattle.image_place.specs.ViewRows.{symbol_seen};
+ghost use Rattle.image_view.specs.ViewRows.{symbol_seen};
 ghost use Rattle.image_place.specs.Leading.{IsNear};
 
 use crate::addresses::Addresses;
 use crate::holding::{Definitions, first_holder};
 use crate::names::address_of;
-use crate::view::{View, ViewSymbol};
+use image_view::{View, ViewSymbol};
 use std::collections::HashMap;
 
 /// Where a relocation leads.

@@ -11,8 +11,8 @@ use crate::judging::{holds_range, width_of};
 use crate::leading::{Led, Scene, led_to};
 use crate::ranges::Definition;
 use crate::values::value_of;
-use crate::view::ViewReloc;
 use byte_core::place_number;
+use image_view::ViewReloc;
 
 /// Writes a relocation into the bytes of a definition, if its range holds the whole field. False where it has no value.
 pub fn apply(

@@ -27,7 +27,7 @@ use crate::objects::object_views;
 use crate::ranges::definitions_in;
 use crate::rows::{DefAddress, Extern, PlacedBytes};
 use crate::twice::second_definition;
-use crate::view::View;
+use image_view::View;
 use std::alloc::Global;
 use std::collections::HashMap;
 

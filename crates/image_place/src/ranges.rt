@@ -3,12 +3,12 @@
 ghost use Rattle.std.specs.Prelude.{◌≡◌, ◌++◌, IfOk, IfErr, OnOk, map, option_map};
 ghost use Rattle.image_place.specs.Placed.{definition_at, definitions_in, row_for};
 ghost use Rattle.image_place.specs.RangeRows.{definition_seen, one_or_none};
-ghost use Rattle.image_place.specs.ViewRows.{symbol_seen};
+ghost use Rattle.image_view.specs.ViewRows.{symbol_seen};
 ghost use Rattle.image_place.specs.declared.error.PlaceError.TheVariants.{OutOfMemory};
 
 use crate::addresses::Addresses;
 use crate::error::PlaceError;
-use crate::view::{View, ViewSymbol};
+use image_view::{View, ViewSymbol};
 use std::alloc::Global;
 
 /// A definition with an address row.

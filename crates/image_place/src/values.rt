@@ -4,7 +4,7 @@ ghost use Rattle.std.specs.Prelude.{◌≡◌, ◌+◌, ◌<◌, ◌^◌, option
 ghost use Rattle.byte_core.specs.Number.{little_bytes};
 ghost use Rattle.image_place.specs.Fixups.{fix_width, signed_bytes, unsigned_bytes, value_bytes};
 
-use crate::kind::FixKind;
+use image_view::FixKind;
 
 /// The number of a field at address `p` that leads to address `s`, None where the value doesn't fit.
 pub fn value_of(kind: FixKind, s: u128, addend: i64, p: u128) -> Option<u64>

@@ -3,15 +3,16 @@ use Rattle.std.proofs.Common.{◌≡◌, ℕ, zero, suc, ◌+◌, ◌<◌, List,
 use Rattle.std.specs.Prelude.{◌≢◌, ◌⊎◌}
 use Rattle.std.proofs.lemmas.List.{take-take}
 use Rattle.serde_json.specs.Data.{Data}
-use Rattle.image_place.specs.View.{View}
+use Rattle.image_view.specs.View.{View}
 use Rattle.image_place.specs.declared.rows.DefAddress.{DefAddress}
 use Rattle.image_place.specs.declared.fault.PlaceFault.{PlaceFault}
 use Rattle.image_place.specs.declared.fault.PlaceFault.TheVariants as faults
 use Rattle.image_place.specs.declared.error.PlaceError.{PlaceError}
 use Rattle.image_place.specs.declared.error.PlaceError.TheVariants as errors
-use Rattle.image_place.specs.Placed.{PlacedEntry, Placed, AreViewed, IsViewed, IsUnread, IsFaulty, place_fault, placed_entries}
+use Rattle.image_view.specs.Viewed.{IsViewed}
+use Rattle.image_place.specs.Placed.{PlacedEntry, Placed, AreViewed, IsUnread, IsFaulty, place_fault, placed_entries}
 use Rattle.image_place.specs.Views.{TellsPlace}
-use Rattle.image_place.proofs.ViewedLaws.{one_view}
+use Rattle.image_view.proofs.ViewedLaws.{one_view}
 use Rattle.place_json.specs.Input.{PlaceInput, place_of}
 use Rattle.place_json.specs.Lines.{entry_line}
 use Rattle.place_json.specs.Outcomes.{IsPlacedText, IsPlaceRefusal}

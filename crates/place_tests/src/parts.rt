@@ -5,7 +5,8 @@ use cranelift_module::{
 };
 use cranelift_object::{Command, CommandPart};
 use image_build::{Part, build_image};
-use image_place::{DefAddress, Extern, PlacedBytes, object_view, place};
+use image_place::{DefAddress, Extern, PlacedBytes, place};
+use image_view::object_view;
 use ir_core::{
     Architecture, BinaryFormat, CallConv, Environment, Reloc, Signature, System, TargetIsa, Triple,
 };

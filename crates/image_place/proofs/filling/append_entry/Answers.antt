@@ -1,7 +1,7 @@
 use Rattle.std.proofs.Common.{◌≡◌, ◌++◌, List, ℕ, Some, None, Vec, Global, map, length, get_or, refl, ap, sym, ◌∙◌, append-nil, slice_get}
 use Rattle.std.specs.Prelude.{Option, option_map}
 use Rattle.std.proofs.lemmas.Option.{slice_get_read, slice_get_within}
-use Rattle.image_place.specs.View.{ViewSection}
+use Rattle.image_view.specs.View.{ViewSection}
 use Rattle.image_place.specs.Applying.{bytes_by}
 use Rattle.image_place.specs.Naming.{address_found}
 use Rattle.image_place.specs.Placed.{given, PlacedEntry}

@@ -2,7 +2,7 @@ use Rattle.std.proofs.Common.{◌-◌, List, ℕ, length, ap, sym, ◌∙◌, ar
 use Rattle.std.proofs.lemmas.List.{drop_all}
 use Rattle.byte_core.specs.Number.{bytes_at}
 use Rattle.image_place.specs.Fixups.{fixed}
-use Rattle.image_place.specs.View.{ViewReloc}
+use Rattle.image_view.specs.declared.view.ViewReloc.{ViewReloc}
 use Rattle.image_place.specs.Applying.{held_by}
 use Rattle.image_place.specs.Naming.{address_found}
 use Rattle.image_place.specs.Placed.{given}

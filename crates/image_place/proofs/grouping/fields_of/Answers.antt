@@ -1,6 +1,6 @@
 use Rattle.std.proofs.Common.{◌≡◌, ◌<◌, List, length, map, ap, ◌∙◌, arith, get_or}
 use Rattle.byte_core.proofs.Lists.{item_get}
-use Rattle.image_place.specs.View.{ViewSection}
+use Rattle.image_view.specs.View.{ViewSection}
 use Rattle.image_place.proofs.DefinitionLaws.{long_map}
 use Rattle.image_place.proofs.GroupLaws.{items_of, grouped_start, grouped_next, grouped_end}
 use Rattle.image_place.proofs.grouping.fields_of.Goals as goal

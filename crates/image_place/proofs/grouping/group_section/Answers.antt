@@ -1,6 +1,6 @@
 use Rattle.std.proofs.Common.{◌<◌, List, length, map, ap, subst, arith, get_or, None}
 use Rattle.std.specs.Prelude.{pos}
-use Rattle.image_place.specs.View.{ViewReloc}
+use Rattle.image_view.specs.declared.view.ViewReloc.{ViewReloc}
 use Rattle.image_place.specs.Grouped.{Groups, holds_here}
 use Rattle.image_place.proofs.DefinitionLaws.{long_map}
 use Rattle.image_place.proofs.GroupLaws.{items_of, one_if, groups_start, groups_more, groups_end}

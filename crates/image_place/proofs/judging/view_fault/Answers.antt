@@ -1,5 +1,5 @@
 use Rattle.std.proofs.Common.{◌≡◌, ◌<◌, List, Some, None, length, get_or, ap, sym, ◌∙◌, arith}
-use Rattle.image_place.specs.View.{ViewSection}
+use Rattle.image_view.specs.View.{ViewSection}
 use Rattle.image_place.specs.Leading.{section_faults}
 use Rattle.image_place.specs.Naming.{address_found}
 use Rattle.image_place.specs.Placed.{first_fault, given}

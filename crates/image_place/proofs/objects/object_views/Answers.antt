@@ -1,5 +1,5 @@
 use Rattle.std.proofs.Common.{◌≡◌, map, Vec, Global, ℕ, List, ap, sym, ◌∙◌, arith, Some, true, false}
-use Rattle.image_place.specs.View.{View}
+use Rattle.image_view.specs.View.{View}
 use Rattle.image_place.specs.Placed.{fits_format}
 use Rattle.image_place.proofs.ViewedLaws.{bytes_more, item_at, unread_at, unfit_at, viewed_at}
 use Rattle.image_place.proofs.objects.object_views.Goals as goal

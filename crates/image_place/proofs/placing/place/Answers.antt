@@ -1,6 +1,6 @@
 use Rattle.std.proofs.Common.{ℕ, arith, List, Vec, Global, map, sym, subst}
 use Rattle.std.proofs.lemmas.List.{length-map}
-use Rattle.image_place.specs.View.{View}
+use Rattle.image_view.specs.View.{View}
 use Rattle.image_place.specs.Applying.{AreWhole}
 use Rattle.image_place.proofs.WholeLaws.{all_whole}
 use Rattle.image_place.specs.Placed.{AreViewed}

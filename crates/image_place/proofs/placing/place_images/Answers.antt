@@ -4,7 +4,7 @@ use Rattle.std.specs.Option.{option_or}
 use Rattle.std.specs.List.{filter_map, enumerate_from}
 use Rattle.std.proofs.lemmas.Result.{err_from_is_err_and}
 use Rattle.byte_core.proofs.Lists.{item_get}
-use Rattle.image_place.specs.View.{View}
+use Rattle.image_view.specs.View.{View}
 use Rattle.image_place.specs.Placed.{Definition, PlacedEntry, definitions_in, PlaceFault, first_fault, given}
 use Rattle.image_place.specs.Leading.{faults_by, numbered_faults, view_faults}
 use Rattle.image_place.specs.Applying.{HaveRanges, entry_by, numbered_entries}

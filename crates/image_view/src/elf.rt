@@ -2,8 +2,8 @@
 
 ghost use Rattle.std.specs.Prelude.{◌≡◌, ◌∷◌, IfOk, map};
 ghost use Rattle.image_read.specs.Views.{relocation_of, symbol_of};
-ghost use Rattle.image_place.specs.View.{elf_kind, elf_view, elf_view_reloc, elf_view_section, elf_view_symbol, elf_place, null_symbol};
-ghost use Rattle.image_place.specs.ViewRows.{symbol_seen};
+ghost use Rattle.image_view.specs.View.{elf_kind, elf_view, elf_view_reloc, elf_view_section, elf_view_symbol, elf_place, null_symbol};
+ghost use Rattle.image_view.specs.ViewRows.{symbol_seen};
 
 use crate::kind::FixKind;
 use crate::view::{View, ViewReloc, ViewSection, ViewSymbol};

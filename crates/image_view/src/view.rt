@@ -1,8 +1,8 @@
 //! What placement sees of an object, whatever its format. A linker sees the same.
 
 ghost use Rattle.std.specs.Prelude.{◌≡◌, map};
-ghost use Rattle.image_place.specs.ViewRows.{symbol_seen};
-ghost use Rattle.image_place.specs.View.{filled, section_with, view_with};
+ghost use Rattle.image_view.specs.ViewRows.{symbol_seen};
+ghost use Rattle.image_view.specs.View.{filled, section_with, view_with};
 
 use crate::kind::FixKind;
 use std::marker::Model;
@@ -48,11 +48,11 @@ pub struct ViewSection<'a> {
 }
 
 impl<'a> Model for ViewSection<'a> {
-    ghost use Rattle.image_place.specs.View.{ViewSection};
+    ghost use Rattle.image_view.specs.View.{ViewSection};
 
     ghost Value = { ViewSection };
 
-    ghost use Rattle.image_place.specs.SectionSeen.{section_seen};
+    ghost use Rattle.image_view.specs.SectionSeen.{section_seen};
 
     ghost view = { section_seen };
 }
@@ -113,11 +113,11 @@ pub struct View<'a> {
 }
 
 impl<'a> Model for View<'a> {
-    ghost use Rattle.image_place.specs.View.{View};
+    ghost use Rattle.image_view.specs.View.{View};
 
     ghost Value = { View };
 
-    ghost use Rattle.image_place.specs.ViewSeen.{view_seen};
+    ghost use Rattle.image_view.specs.ViewSeen.{view_seen};
 
     ghost view = { view_seen };
 }

@@ -4,8 +4,8 @@ ghost use Rattle.std.specs.Prelude.{◌≡◌, ◌+◌, ◌-◌, ◌^◌, ◌<�
 ghost use Rattle.std.specs.Int.{cast_signed, w32, w64};
 ghost use Rattle.image_read.specs.MachFile.{lies_in_section};
 ghost use Rattle.image_read.specs.MachViews.{mach_relocation_of, mach_symbol_of};
-ghost use Rattle.image_place.specs.View.{field_addend, field_number, is_label_name, mach_kind, mach_view, mach_view_reloc, mach_view_section, mach_view_symbol, plain_name};
-ghost use Rattle.image_place.specs.ViewRows.{symbol_seen};
+ghost use Rattle.image_view.specs.View.{field_addend, field_number, is_label_name, mach_kind, mach_view, mach_view_reloc, mach_view_section, mach_view_symbol, plain_name};
+ghost use Rattle.image_view.specs.ViewRows.{symbol_seen};
 
 use crate::kind::FixKind;
 use crate::view::{View, ViewReloc, ViewSection, ViewSymbol};

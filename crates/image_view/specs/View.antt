@@ -1,4 +1,4 @@
--- What placement sees of an object, whatever its format: symbols and sections, addresses as the file stores them.
+-- What placing and linking see of an object, whatever its format: symbols and sections, addresses as the file stores them.
 use Rattle.std.specs.Prelude.{ℕ, ◌-◌, ◌/◌, ◌%◌, ◌==◌, ◌&&◌, nat_lt, nat_le, not, ℤ, pos, ◌-ℤ◌, Bool, true, false, List, [], ◌∷◌, length, map, replicate, Option, Some, None, unwrap_or, if◌then◌else◌}
 use Rattle.std.specs.Int.{cast_signed, w32, w64}
 use Rattle.byte_core.specs.Number.{number_at, where_inside}
@@ -8,9 +8,10 @@ use Rattle.image_read.specs.MachFile.{MachRelocationRow, lies_in_section}
 use Rattle.image_read.specs.MachImage.{MachImageData, MachSectionData, MachSymbolData}
 use Rattle.image_read.specs.declared.image.Image.{Image}
 use Rattle.image_read.specs.declared.image.Image.TheVariants.{Elf, Mach, Fat}
-use Rattle.image_place.specs.Fixups.{FixKind, absolute8, absolute4, relative4}
+use Rattle.image_view.specs.declared.kind.FixKind.{FixKind}
+use Rattle.image_view.specs.declared.kind.FixKind.TheVariants.{Absolute8 as absolute8, Absolute4 as absolute4, Relative4 as relative4}
 -- a relocation: its offset in the section, its symbol's row, its kind if it is one that is applied, its number, its addend
-pub use Rattle.image_place.specs.declared.view.ViewReloc.{ViewReloc}
+use Rattle.image_view.specs.declared.view.ViewReloc.{ViewReloc}
 
 -- A symbol: its name as it is compared, the number of its section, from 0, if it lies in one, its address, and its size, which
 -- Mach-O doesn't store: 0 there.

@@ -1,0 +1,5 @@
+pub mod View
+pub mod ViewRows
+pub mod SectionSeen
+pub mod ViewSeen
+pub mod Viewed
